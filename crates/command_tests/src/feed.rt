@@ -29,6 +29,8 @@ const CSV: &[u8] =
 const PLAIN: FeedOptions = FeedOptions {
     format: None,
     reorder: 0,
+    leap: 600_000,
+    ignores_clock: false,
     all_formats: false,
 };
 
@@ -204,6 +206,19 @@ fn request_of(format: Option<&str>) -> Request<'_> {
     Request::Feed(FeedWords {
         format,
         reorder: None,
+        leap: None,
+        arrival: false,
+        all: false,
+    })
+}
+
+// `feed` with these milliseconds.
+fn words_of<'a>(reorder: Option<&'a str>, leap: Option<&'a str>) -> Request<'a> {
+    Request::Feed(FeedWords {
+        format: None,
+        reorder,
+        leap,
+        arrival: false,
         all: false,
     })
 }
@@ -243,16 +258,92 @@ fn refuses_a_source_of_another_format(rt: HostRuntime) {
 }
 
 #[test]
+fn refuses_milliseconds_that_are_no_number(rt: HostRuntime) {
+    for word in ["", "-1", "1.5", "600 000", "18446744073709551616"] {
+        for (request, report) in [
+            (words_of(Some(word), None), "bad reorder\n"),
+            (words_of(None, Some(word)), "bad leap\n"),
+            (words_of(Some(word), Some(word)), "bad reorder\n"),
+        ] {
+            assert_reported(&rt, rt.alloc(), request, Status::Misused, report);
+        }
+    }
+}
+
+// Two frames with a clock. The second clock is eleven minutes later.
+const JUMPING: &[u8] =
+    b"@000000002EE08D40621D58C382D690C8AC2863A7;\n@0001D811CAE08D40621D58C386435CC412692AD6;\n";
+
+#[test]
+fn a_leap_decides_what_jumps(rt: HostRuntime) {
+    let lines = b"1 8D40621D58C382D690C8AC2863A7\n660001 8D40621D58C386435CC412692AD6\n";
+    for (leap, count, summary) in [
+        ("659999", 31, "1 written, 1 set aside\n"),
+        ("660000", 67, "2 written\n"),
+    ] {
+        let ran = outcome_on(rt.alloc(), words_of(None, Some(leap)), JUMPING);
+        assert!(rt; ran.written.as_slice() == &lines[..count]);
+        assert!(rt; ran.reported.as_slice() == summary.as_bytes());
+    }
+}
+
+#[test]
+fn arrivals_in_place_of_the_clock(rt: HostRuntime) {
+    let options = FeedOptions {
+        ignores_clock: true,
+        ..PLAIN
+    };
+    let mut source = source_of(JUMPING);
+    let mut sink = sink_of(Vec::new(rt.alloc()));
+    assert!(rt; run_feed(&options, &mut Ticking { next: 7 }, &mut source, &mut sink).is_ok());
+    let lines = b"7 8D40621D58C382D690C8AC2863A7\n7 8D40621D58C386435CC412692AD6\n";
+    assert!(rt; taken(sink).as_slice() == lines.as_slice());
+}
+
+#[test]
 fn refuses_a_source_without_frames(rt: HostRuntime) {
-    let ran = outcome_on(
-        rt.alloc(),
-        request_of(None),
-        b"{}\n7 8D40621D58C382D690C8AC2863A7\n",
-    );
+    let ran = outcome_on(rt.alloc(), request_of(None), b"{}\n{\"now\":1}\n");
     assert!(rt; ran.written.is_empty() && ran.status == Status::Refused);
     assert!(rt;
         ran.reported.as_slice() == b"the input is lines of JSON, which have no frames\n".as_slice()
     );
+}
+
+#[test]
+fn refuses_an_input_in_which_all_is_damaged(rt: HostRuntime) {
+    let lines = b"7 8D40621D58C382D690C8AC2863A7\n";
+    for (input, status, written, summary) in [
+        (
+            b"x\n".as_slice(),
+            Status::Refused,
+            b"".as_slice(),
+            "0 written, 1 damaged: try without --format; the times of a table are seconds\n",
+        ),
+        (
+            b"x\ny\n".as_slice(),
+            Status::Refused,
+            b"".as_slice(),
+            "0 written, 2 damaged: try without --format; the times of a table are seconds\n",
+        ),
+        (b"".as_slice(), Status::Good, b"".as_slice(), "0 written\n"),
+        (
+            b"x\n7 8D40621D58C382D690C8AC2863A7\n".as_slice(),
+            Status::Good,
+            lines.as_slice(),
+            "1 written, 1 damaged\n",
+        ),
+        (
+            b"x\n7 5D40621D000000\n".as_slice(),
+            Status::Good,
+            b"".as_slice(),
+            "0 written, 1 of other downlink formats (DF11 1), 1 damaged\n",
+        ),
+    ] {
+        let ran = outcome_on(rt.alloc(), request_of(Some("log")), input);
+        assert!(rt; ran.status == status);
+        assert!(rt; ran.written.as_slice() == written);
+        assert!(rt; ran.reported.as_slice() == summary.as_bytes());
+    }
 }
 
 // One or more of each kind: a squitter, messages of formats 0, 11 and 20, a reply of Mode A/C, a computed position, a
@@ -291,6 +382,7 @@ fn assert_sorted(rt: &impl Abort, alloc: Global, reorder: u64, all_formats: bool
             format: Some(SourceFormat::Log),
             reorder,
             all_formats,
+            ..PLAIN
         };
         let mut source = source_of(pieces_of(LATE, size, usize::MAX));
         let mut sink = sink_of(Vec::new(alloc));
@@ -314,18 +406,20 @@ fn writes_frames_of_all_formats(rt: HostRuntime) {
     assert_sorted(&rt, rt.alloc(), 2, true, all);
 }
 
+const FRAMELESS: &[u8] = &[b'x'; 16_448];
+
 // A run on a live source ends once the source is known to have no frames. A recorded source is read on.
 #[test]
 fn leaves_a_live_source_without_frames(rt: HostRuntime) {
-    let sbs = b"MSG,3\nMSG,3\n";
-    let mut source = source_of(pieces_of(sbs, 6, 6));
+    // It is known once nothing has shown a format within 16,384 bytes. The next get fails.
+    let mut source = source_of(pieces_of(FRAMELESS, 64, 16_384));
     let mut sink = sink_of(Vec::new(rt.alloc()));
     let mut clock = Ticking { next: 0 };
     match feed(None, &mut clock, &mut source, &mut sink) {
-        Ok(end) => assert!(rt; matches!(end.stranger, Some(Stranger::Sbs))),
+        Ok(end) => assert!(rt; matches!(end.stranger, Some(Stranger::NoFrame))),
         Err(_) => assert!(rt; false),
     }
-    let mut recorded = source_of(pieces_of(sbs, 6, 6));
+    let mut recorded = source_of(pieces_of(FRAMELESS, 64, 16_384));
     match feed(None, &mut NoClock, &mut recorded, &mut sink) {
         Err(RunFault::Read) => {}
         _ => assert!(rt; false),
@@ -333,24 +427,13 @@ fn leaves_a_live_source_without_frames(rt: HostRuntime) {
     assert!(rt; taken(sink).is_empty());
 }
 
-// Asserts that a reordering delay is refused.
-fn assert_bad_reorder(rt: &impl Abort, alloc: Global, reorder: &str) {
-    let request = Request::Feed(FeedWords {
-        format: None,
-        reorder: Some(reorder),
-        all: false,
-    });
-    assert_reported(rt, alloc, request, Status::Misused, "bad reorder\n");
-}
-
 #[test]
-fn refuses_a_delay_that_is_no_number(rt: HostRuntime) {
-    for word in ["", "-1", "1.5", "5ms", "18446744073709551616"] {
-        assert_bad_reorder(&rt, rt.alloc(), word);
-    }
+fn refuses_the_first_invalid_word(rt: HostRuntime) {
     let request = Request::Feed(FeedWords {
         format: Some("none"),
         reorder: Some("none"),
+        leap: None,
+        arrival: false,
         all: true,
     });
     assert_reported(&rt, rt.alloc(), request, Status::Misused, "bad format\n");

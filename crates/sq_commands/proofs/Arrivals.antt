@@ -11,7 +11,7 @@ use Rattle.sq_feed.specs.Times.{times_after}
 use Rattle.sq_feed.specs.declared.counts.Fate.{Fate}
 use Rattle.sq_feed.specs.declared.counts.Fate.TheVariants.{Written, Aside}
 use Rattle.sq_feed.specs.declared.message.Found.{Found}
-use Rattle.sq_feed.specs.declared.message.Found.TheVariants.{Whole, Damage, Foreign}
+use Rattle.sq_feed.specs.declared.message.Found.TheVariants.{Whole, Damage, Foreign, ReceiverId}
 use Rattle.sq_feed.specs.declared.message.RawFrame.{RawFrame}
 use Rattle.sq_feed.specs.declared.message.Time.{Time}
 use Rattle.sq_feed.specs.declared.message.Time.TheVariants.{Unknown, Ticks, Millis}
@@ -171,6 +171,7 @@ live_by None arrival ear time = live_kept ear.times time arrival
 told_of_quiet : (arrival : ℕ) (ear : Hears) (item : Found) → ear.times.is_live ≡ false
     → told_of arrival ear item ≡ told_of 0 (quiet ear) item
 told_of_quiet arrival ear Damage is = refl
+told_of_quiet arrival ear ReceiverId is = refl
 told_of_quiet arrival ear (Foreign stranger) is = refl
 told_of_quiet arrival ear (Whole message) is =
     told_by_quiet (fate_of ear.all_formats message.time message.frame) arrival ear message.time message.frame is
@@ -178,6 +179,7 @@ told_of_quiet arrival ear (Whole message) is =
 ear_after_quiet : (arrival : ℕ) (ear : Hears) (item : Found) → ear.times.is_live ≡ false
     → quiet (ear_after arrival ear item) ≡ quiet (ear_after 0 (quiet ear) item)
 ear_after_quiet arrival ear Damage is = refl
+ear_after_quiet arrival ear ReceiverId is = refl
 ear_after_quiet arrival ear (Foreign stranger) is = refl
 ear_after_quiet arrival ear (Whole message) is =
     ear_by_quiet (fate_of ear.all_formats message.time message.frame) arrival ear message.time is
@@ -185,6 +187,7 @@ ear_after_quiet arrival ear (Whole message) is =
 live_after : (arrival : ℕ) (ear : Hears) (item : Found) → (ear_after arrival ear item).times.is_live
     ≡ ear.times.is_live
 live_after arrival ear Damage = refl
+live_after arrival ear ReceiverId = refl
 live_after arrival ear (Foreign stranger) = refl
 live_after arrival ear (Whole message) =
     live_by (fate_of ear.all_formats message.time message.frame) arrival ear message.time

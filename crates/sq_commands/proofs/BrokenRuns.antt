@@ -1,15 +1,17 @@
 -- A run that broke off did what its devices show.
 use Rattle.std.proofs.Common.{◌≡◌, Option, None, Some, Ok, Err, inl, inr, sym}
-use Rattle.std.specs.Prelude.{codes}
+use Rattle.std.specs.Prelude.{Bool, codes, false, true, if◌then◌else◌}
 use Rattle.sq_devices.specs.Changes.{TookNothing, WroteOrFailed, taken_from, written_on}
 use Rattle.sq_devices.specs.Clocks.{Times}
 use Rattle.sq_devices.specs.declared.device.Sink.{Ghosts as SinkGhosts}
 use Rattle.sq_devices.specs.declared.device.Source.{Ghosts as SourceGhosts}
 use Rattle.sq_log.specs.declared.run.RunFault.TheVariants.{Read, Write, Memory}
+use Rattle.sq_feed.specs.Counts.{Tally}
 use Rattle.sq_feed.specs.declared.message.Stranger.{Stranger}
 use Rattle.sq_commands.specs.Feed.{feed_reply, status_at_end}
 use Rattle.sq_commands.specs.Requests.{Text}
-use Rattle.sq_commands.specs.declared.status.Status.TheVariants.{Broken}
+use Rattle.sq_commands.specs.declared.status.Status.TheVariants.{Broken, Good, Refused}
+use Rattle.sq_commands.specs.Summary.{are_all_damaged}
 use Rattle.sq_commands.specs.BrokenOff.{BrokenAside, BrokenFeeds, FailedInside}
 use Rattle.sq_commands.specs.Outputs.{effects, outputs}
 use Rattle.sq_commands.specs.Replies.{FailedOn, IsDelivered, ReplyParts, broken_off}
@@ -18,14 +20,18 @@ use Rattle.sq_commands.proofs.SoundReplies.{IsSound, reported_as}
 use Rattle.sq_commands.proofs.OneRuns.Replies.{sound}
 
 -- a run to the end of its input did not break off
-whole_feed : (stranger : Option Stranger) → Broken ≡ status_at_end stranger → ⊥
-whole_feed None is = cc is
-whole_feed (Some stranger) is = cc is
+whole_feed : (counts : Tally) (stranger : Option Stranger) → Broken ≡ status_at_end counts stranger → ⊥
+whole_feed counts None is = by (are_all_damaged counts) is
+  where
+    by : (b : Bool) → Broken ≡ (if b then Refused else Good) → ⊥
+    by true is = cc is
+    by false is = cc is
+whole_feed counts (Some stranger) is = cc is
 
 module _ {S K F : Type 0} (s : SourceGhosts S) (k : SinkGhosts K) (f : SinkGhosts F) where
   pub broken_feeds : (clock : Times) → BrokenFeeds s k f clock
   broken_feeds clock options from to old new before after (reply, (Ok end, fed, is), said) =
-      absurd (whole_feed end.stranger
+      absurd (whole_feed end.counts end.stranger
       (reported_as reply (feed_reply (Ok end)) Broken (written_on f before after) is said).0)
   broken_feeds clock options from to old new before after (reply, (Err Read, (same, took), is), said) =
       (same, inl (took, (reported_as reply (broken_off Read) Broken (written_on f before after) is said).1))

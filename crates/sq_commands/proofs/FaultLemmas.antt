@@ -63,4 +63,5 @@ one_track_fault words a b =
     (one_unless _ a b faults.Window _ _ (one_site_fault words.lat words.lon a b))))
 
 pub one_feed_fault : OneFeedFault
-one_feed_fault words a b = one_unless _ a b faults.Format _ _ (λ x y. x.0 ∙ sym y.0)
+one_feed_fault words a b =
+    one_unless _ a b faults.Format _ _ (one_unless _ a b faults.Reorder _ _ (λ x y. x.0 ∙ sym y.0))

@@ -4,7 +4,7 @@ use Rattle.std.proofs.Common.{Some, ap, ap₂, append_assoc, arith, inl, inr, su
 use Rattle.std.specs.Prelude.{IfErr}
 use Rattle.sq_feed.specs.declared.message.Found.{Found}
 use Rattle.sq_feed.specs.declared.counts.Fate.{Fate}
-use Rattle.sq_feed.specs.declared.message.Found.TheVariants.{Damage, Foreign, Whole}
+use Rattle.sq_feed.specs.declared.message.Found.TheVariants.{Damage, Foreign, Whole, ReceiverId}
 use Rattle.sq_feed.specs.declared.message.Time.{Time}
 use Rattle.sq_feed.specs.declared.message.Timed.{Timed}
 use Rattle.std.specs.Io.KnownBytes.{Appends, Consumes, IsAtEnd}
@@ -15,7 +15,7 @@ use Rattle.sq_devices.specs.Calls.{HasPut, HasSent}
 use Rattle.sq_devices.specs.Changes.{FailedWithin, Taken, TookAll, TookReported, WroteLast}
 use Rattle.sq_devices.specs.Changes.{taken_from, written_on}
 use Rattle.sq_devices.specs.Clocks.{Tells, times_of}
-use Rattle.sq_devices.specs.Device.{IsPrefixOf, WroteFront}
+use Rattle.sq_devices.specs.Device.{IsPrefixOf, KeepsOrHides, WroteFront}
 use Rattle.sq_devices.specs.declared.device.Clock.{Ghosts as ClockGhosts}
 use Rattle.sq_devices.specs.declared.device.Sink.{Ghosts as SinkGhosts}
 use Rattle.sq_devices.specs.declared.device.Source.{Ghosts as SourceGhosts}
@@ -29,8 +29,8 @@ use Rattle.sq_feed.specs.Orders.{Sorting, given_all, nothing_sorted, sorted_all}
 use Rattle.sq_feed.specs.Readers.{awaited}
 use Rattle.sq_log.specs.Runs.{HasGot, IsMadeOf}
 use Rattle.sq_log.specs.declared.run.RunFault.{RunFault}
-use Rattle.sq_log.specs.declared.run.RunFault.TheVariants.{Write}
-use Rattle.sq_log.proofs.Gets.{got_on, got_up_to_end, made_of_more, made_of_nothing}
+use Rattle.sq_log.specs.declared.run.RunFault.TheVariants.{Read, Write}
+use Rattle.sq_log.proofs.Gets.{consumes_hidden, got_on, got_up_to_end, made_of_more, made_of_nothing}
 use Rattle.sq_log.proofs.Running.{no_more}
 use Rattle.sq_commands.specs.Feed.{EndsBy, FedWhole, HasFedAll, HasFedText, HasPutLast, HasPutPart, HasPutSorted, IsFed, Sorts}
 use Rattle.sq_commands.specs.Feed.{all_lines, arrivals_in, end_of, lines_in, squitters_in, start_of}
@@ -55,6 +55,7 @@ stays_one : (arrival : ℕ) (ear : Hears) (item : Found) → ear.stranger ≢ No
 stays_one arrival ear (Whole message) known =
     stays_by (fate_of ear.all_formats message.time message.frame) arrival ear message.time known
 stays_one arrival ear Damage known = known
+stays_one arrival ear ReceiverId known = known
 stays_one arrival ear (Foreign stranger) known = λ none. cc none
 
 stays : (arrival : ℕ) (ear : Hears) (items : List Found) → ear.stranger ≢ None
@@ -109,6 +110,24 @@ module _ (options : FeedOptions) {C S K : Type 0} (c : ClockGhosts C) (s : Sourc
       (going : IsGoing clock' source' sink' feed order) where
     abbrev pub calls : List Fed
     calls = going.calls
+
+    -- ---- a get failed
+    pub read_failed : (source'' : S) → s.has_failed source'' ≡ true
+        → KeepsOrHides (s.to_come source') (s.to_come source'') → s.gets_left source'' ≡ s.gets_left source'
+        → IsFed options (times_of c clock clock') (Err Read) (taken_from s source source'') (written_on k sink sink')
+    read_failed source'' failed kept used = (
+      going.unfinished,
+      (
+        failed,
+        (
+          bytes_in calls,
+          consumes_hidden (s.to_come source) (s.to_come source') (s.to_come source'') (bytes_in calls)
+              going.got.consumed kept,
+          omega (arith, used, going.got.few),
+          (calls, going.fed, refl, going.told, going.put.0),
+        ),
+      ),
+    )
 
     -- ---- one reading of the clock more
     module _ (clock'' : C) (arrival : ℕ) (told : c.Told clock' arrival clock'') where

@@ -1,5 +1,5 @@
 -- Calls of a feed, one after the other, and the lines that they put.
-use Rattle.std.proofs.Common.{◌≡◌, ◌+◌, ◌++◌, ◌∙◌, ℕ, List, [], ◌∷◌, Option, take, drop, refl, sym}
+use Rattle.std.proofs.Common.{◌≡◌, ◌+◌, ◌++◌, ◌∙◌, ℕ, zero, suc, List, [], ◌∷◌, Option, take, drop, refl, sym}
 use Rattle.std.proofs.Common.{ap, append_assoc, append-nil, subst, take-add}
 use Rattle.std.specs.Io.KnownBytes.{Appends}
 use Rattle.sq_devices.specs.Calls.{HasPut, HasSent}
@@ -8,7 +8,8 @@ use Rattle.sq_devices.specs.Device.{WroteFront}
 use Rattle.sq_devices.specs.declared.device.Sink.{Ghosts as SinkGhosts}
 use Rattle.sq_devices.proofs.Puts.{HasPut-trans}
 use Rattle.sq_feed.specs.Ears.{told_of_all}
-use Rattle.sq_feed.specs.Feeds.{AreFed, Fed, Feeding, HasFed, bytes_in, last_fed}
+use Rattle.sq_feed.specs.Feeds.{AreFed, Fed, Feeding, HasFed, bytes_in, last_fed, told_at_end}
+use Rattle.sq_feed.specs.Follows.{Follows}
 use Rattle.sq_feed.specs.Readers.{awaited}
 use Rattle.sq_feed.specs.declared.message.Found.{Found}
 use Rattle.sq_feed.specs.declared.message.Timed.{Timed}
@@ -51,6 +52,21 @@ fed_more arrival old mid new piece at count more Of On (found, fed, of) next on 
       (fed_on arrival old mid new (take at piece) (take count (drop at piece)) found more fed next),
   subst On (sym (told_on arrival old mid (take at piece) found more fed)) (on (told_of_all arrival old.ear found) of),
 )
+
+take_nothing : (n : ℕ) (bytes : List ℕ) → bytes ≡ [] → take n bytes ++ [] ≡ []
+take_nothing zero bytes none = refl
+take_nothing (suc n) [] none = refl
+take_nothing (suc n) (byte ∷ bytes) none = absurd (cc none)
+
+-- the squitters of a part of the last items, and the others
+pub told_of_front : (arrival : ℕ) (old new : Feeding) (count : ℕ) (found : List Found)
+    → HasFed arrival old (take count []) found new
+    → told_of_all arrival old.ear found ++ told_of_all arrival new.ear (awaited new.reader [])
+    ≡ told_at_end arrival old
+unfolding Follows
+told_of_front arrival old new count found fed =
+    sym (told_on arrival old new (take count []) found (awaited new.reader []) fed)
+    ∙ ap (told_of_all arrival old.ear) (sym (fed.follows []) ∙ ap (awaited old.reader) (take_nothing count [] refl))
 
 -- ---- one call more
 

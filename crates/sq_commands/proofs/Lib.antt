@@ -9,6 +9,7 @@ pub mod SomeWriters
 pub mod Sortings
 pub mod SoundReplies
 pub mod TrackLemmas
+pub mod HeldAnswers
 pub mod OnePast
 pub mod Feeding
 pub mod FeedRuns

@@ -1,18 +1,19 @@
 -- Squitters that are put, as they come or in an order.
-use Rattle.std.proofs.Common.{◌≡◌, ◌⊎◌, ◌*◌, ◌+◌, ◌-◌, ◌<◌, ◌≤◌, ◌++◌, ◌∙◌, ℕ, List, [], ◌∷◌, Option, None, Some, Result, Ok, Err}
-use Rattle.std.proofs.Common.{ap, ap₂, append_assoc, append-nil, arith, false, inl, inr, length, length-take, refl, subst, sym}
-use Rattle.std.proofs.Common.{take, take-add, take-append-drop, drop}
+use Rattle.std.proofs.Common.{◌≡◌, ◌<◌, ◌++◌, ◌∙◌, ℕ, List, [], ◌∷◌, Option, None, Some, Result, Ok, Err}
+use Rattle.std.proofs.Common.{ap, append_assoc, append-nil, arith, false, length, refl, subst, sym}
 use Rattle.std.specs.Prelude.{OnErr, OnOk}
-use Rattle.std.proofs.lemmas.List.{length-append, length-drop, length-take-le, take_all}
+use Rattle.sq_devices.specs.Calls.{HasPut}
 use Rattle.sq_devices.specs.Device.{WroteFront}
+use Rattle.sq_devices.specs.declared.device.Sink.{Ghosts as SinkGhosts}
+use Rattle.sq_devices.proofs.Puts.{HasPut-nil, HasPut-trans}
 use Rattle.sq_feed.specs.declared.message.Timed.{Timed}
 use Rattle.sq_feed.specs.Feeds.{lines_of}
 use Rattle.sq_feed.specs.Orders.{HasFlushed, HasSorted, Sorting, given_all, given_now, is_due, settled, sorted_all}
-use Rattle.sq_feed.specs.Orders.{squitters_of, with_one}
+use Rattle.sq_feed.specs.Orders.{with_one}
 use Rattle.sq_feed.proofs.Feeding.{lines_of-append}
-use Rattle.sq_feed.proofs.Ordering.{gives_at_once, held_as, none_due, sorted_count, sorted_end, sorted_more, sorted_so}
-use Rattle.sq_feed.proofs.Ordering.{squitters-append, squitters_long}
-use Rattle.sq_commands.specs.Feed.{HasPutLast, HasPutPart, HasPutSorted, Sorts, waiting_in}
+use Rattle.sq_feed.proofs.Ordering.{gives_at_once, held_as, none_due, sorted_so}
+use Rattle.sq_commands.specs.Feed.{HasLined, HasPutLast, HasPutPart, HasPutSorted, Sorts, waiting_in}
+use Rattle.sq_commands.proofs.Feeding.{wrote_after}
 
 -- a prefix of a text is one of a longer text
 pub wrote_front_more : (a c : Option (List ℕ)) (x y : List ℕ) → WroteFront a c x → WroteFront a c (x ++ y)
@@ -107,159 +108,66 @@ pub put_ordered_part : (old : Sorting) (came : List Timed) (Of : List ℕ → Ty
     → Of (lines_of (given_all 4096 old came)) → HasPutPart (Some old) came Of
 put_ordered_part old came Of of state (same, _) = subst (λ s. Of (lines_of (given_all 4096 s came))) (sym same) of
 
--- a part of the squitters came, and a prefix of the lines that are given was written
-pub part_given : (old mid : Sorting) (a b came given : List Timed) (before after : Option (List ℕ))
-    → came ≡ a ++ b → HasSorted 4096 old a given mid → WroteFront before after (lines_of given)
-    → WroteFront before after (lines_of (given_all 4096 old came))
-part_given old mid a b came given before after is sorts wrote =
+-- a part of the squitters came, and a prefix of these lines and of those that are given was written
+pub part_given : (old mid : Sorting) (a b came given : List Timed) (front : List ℕ) (before after : Option (List ℕ))
+    → came ≡ a ++ b → HasSorted 4096 old a given mid → WroteFront before after (front ++ lines_of given)
+    → WroteFront before after (front ++ lines_of (given_all 4096 old came))
+part_given old mid a b came given front before after is sorts wrote =
     let rest = given_all 4096 mid b in
     subst (WroteFront before after)
-    (sym (lines_of-append given rest) ∙ ap lines_of (sym (sorts.gives b) ∙ ap (given_all 4096 old) (sym is)))
-    (wrote_front_more before after (lines_of given) (lines_of rest) wrote)
+    (append_assoc front (lines_of given) (lines_of rest)
+    ∙ ap (λ l. front ++ l) (sym (lines_of-append given rest)
+    ∙ ap lines_of (sym (sorts.gives b) ∙ ap (given_all 4096 old) (sym is))))
+    (wrote_front_more before after (front ++ lines_of given) (lines_of rest) wrote)
 
 -- those that wait are held
 pub waiting_held : (order : Option Sorting) (state : Sorting) → Sorts order state → waiting_in order ≡ state.held
 waiting_held (Some order) state (is, _) = ap (λ (s : Sorting). s.held) (sym is)
 waiting_held None state (_, none) = sym none
 
--- ---- squitters that come in several parts
-
-same_rest : {X : Type 0} (xs : List X) (at : ℕ) → take (length xs - at) (drop at xs) ≡ drop at xs
-same_rest xs at = take_all (length xs - at) (drop at xs) (omega (arith, length-drop at xs))
-
-squitters_cut : (ms : List ℕ) (fs : List (List ℕ)) (at n : ℕ) → length ms ≡ length fs
-    → squitters_of (take (at + n) ms) (take (at + n) fs)
-    ≡ squitters_of (take at ms) (take at fs) ++ squitters_of (take n (drop at ms)) (take n (drop at fs))
-squitters_cut ms fs at n both =
-    ap₂ squitters_of (take-add at n ms) (take-add at n fs)
-    ∙ squitters-append (take at ms) (take n (drop at ms)) (take at fs) (take n (drop at fs))
-    (omega (arith, length-take at ms, length-take at fs, both))
-
-module _ (old mid new : Sorting) (ms : List ℕ) (fs : List (List ℕ)) (at n : ℕ) (given due : List Timed)
-    (both : length ms ≡ length fs) (within : at ≤ length ms) (fits : n ≤ length (take (length ms - at) (drop at ms)))
-    (sorts : HasSorted 4096 old (squitters_of (take at ms) (take at fs)) given mid)
-    (more : HasSorted 4096 mid (squitters_of (take n (take (length ms - at) (drop at ms)))
-    (take n (take (length fs - at) (drop at fs)))) due new) where
-  pub part_within : at + n ≤ length ms
-  part_within = omega (arith, within, subst (λ (l : List ℕ). n ≤ length l) (same_rest ms at) fits, length-drop at ms)
-
-  abbrev came : List Timed
-  came = squitters_of (take n (drop at ms)) (take n (drop at fs))
-
-  more_here : HasSorted 4096 mid came due new
-  more_here =
-      subst (λ (a : List ℕ). HasSorted 4096 mid (squitters_of (take n a) (take n (drop at fs))) due new)
-      (same_rest ms at)
-      (subst (λ (b : List (List ℕ)). HasSorted 4096 mid (squitters_of (take n (take (length ms - at) (drop at ms)))
-      (take n b)) due new) (same_rest fs at) more)
-
-  pub part_sorted : HasSorted 4096 old (squitters_of (take (at + n) ms) (take (at + n) fs)) (given ++ due) new
-  part_sorted =
-      subst (λ l. HasSorted 4096 old l (given ++ due) new) (sym (squitters_cut ms fs at n both))
-      (sorted_more 4096 old mid new (squitters_of (take at ms) (take at fs)) came given due sorts more_here)
-
-  -- fewer are left to come or to be given
-  pub part_smaller : 0 < n + length due
-      → 2 * (length ms - (at + n)) + length new.held < 2 * (length ms - at) + length mid.held
-  part_smaller some =
-      omega (
-        arith,
-        some,
-        part_within,
-        sorted_count 4096 mid new came due more_here,
-        squitters_long (take n (drop at ms)) (take n (drop at fs))
-            (omega (
-              arith,
-              length-take n (drop at ms),
-              length-take n (drop at fs),
-              length-drop at ms,
-              length-drop at fs,
-              both,
-            )),
-        length-take n (drop at ms),
-        length-drop at ms,
-      )
-
-  -- a prefix of the lines was written
-  pub part_front : (before after : Option (List ℕ)) → WroteFront before after (lines_of given ++ lines_of due)
-      → WroteFront before after (lines_of (given_all 4096 old (squitters_of ms fs)))
-  part_front before after wrote =
-      let k = at + n in
-      let whole : squitters_of ms fs ≡ squitters_of (take k ms) (take k fs) ++ squitters_of (drop k ms) (drop k fs) =
-      ap₂ squitters_of (sym (take-append-drop k ms)) (sym (take-append-drop k fs))
-      ∙ squitters-append (take k ms) (drop k ms) (take k fs) (drop k fs)
-      (omega (arith, length-take k ms, length-take k fs, both)) in
-      part_given old new (squitters_of (take k ms) (take k fs)) (squitters_of (drop k ms) (drop k fs))
-      (squitters_of ms fs) (given ++ due) before after whole part_sorted
-      (subst (WroteFront before after) (sym (lines_of-append given due)) wrote)
-
-  -- all came, and none is due
-  module _ (all : (n ≡ length (take (length ms - at) (drop at ms)))
-      ⊎ (n ≡ length (take (length fs - at) (drop at fs))))
-      (none : is_due 4096 new.reorder new.latest new.held ≡ false) where
-    all_came : at + n ≡ length ms
-    all_came = elim all [
-      | inl is ↦ omega (arith, is, ap (λ (l : List ℕ). length l) (same_rest ms at), length-drop at ms, within)
-      | inr is ↦ omega (
-        arith,
-        is,
-        ap (λ (l : List (List ℕ)). length l) (same_rest fs at),
-        length-drop at fs,
-        within,
-        both,
-      )
-    ]
-
-    whole_sorted : HasSorted 4096 old (squitters_of ms fs) (given ++ due) new
-    whole_sorted =
-        subst (λ l. HasSorted 4096 old l (given ++ due) new)
-        (ap₂ squitters_of (take_all (at + n) ms (omega (arith, all_came)))
-        (take_all (at + n) fs (omega (arith, all_came, both)))) part_sorted
-
-    pub whole_state : new ≡ sorted_all 4096 old (squitters_of ms fs)
-    whole_state = (sorted_end 4096 old new (squitters_of ms fs) (given ++ due) whole_sorted none).1
-
-    pub whole_given : lines_of given ++ lines_of due ≡ lines_of (given_all 4096 old (squitters_of ms fs))
-    whole_given =
-        sym (lines_of-append given due)
-        ∙ ap lines_of (sorted_end 4096 old new (squitters_of ms fs) (given ++ due) whole_sorted none).0
-
--- how many squitters are in the front of two arrays
-pub front_long : (ms : List ℕ) (fs : List (List ℕ)) (n : ℕ) → n ≤ length ms → n ≤ length fs
-    → length (squitters_of (take n ms) (take n fs)) ≡ n
-front_long ms fs n fit fits =
-    squitters_long (take n ms) (take n fs) (omega (arith, length-take n ms, length-take n fs, fit, fits))
-    ∙ length-take-le n ms fit
-
 -- ---- squitters that are held
 
-pub flushed_join : (old mid new : Sorting) (given due : List Timed) → HasFlushed old given mid → HasFlushed mid due new
-    → HasFlushed old (given ++ due) new
-flushed_join old mid new given due x y = record {
-  held = append_assoc given due new.held ∙ ap (λ l. given ++ l) y.held ∙ x.held;
-  same = (y.same.0 ∙ x.same.0, y.same.1 ∙ x.same.1);
-}
+pub flushed_front : (old new : Sorting) (given : List Timed) (before after : Option (List ℕ))
+    → HasFlushed old given new → WroteFront before after (lines_of given) → WroteFront before after (lines_of old.held)
+flushed_front old new given before after flushed wrote =
+    subst (WroteFront before after) (sym (lines_of-append given new.held) ∙ ap lines_of flushed.held)
+    (wrote_front_more before after (lines_of given) (lines_of new.held) wrote)
 
-pub flushed_front : (old mid new : Sorting) (given due : List Timed) (before after : Option (List ℕ))
-    → HasFlushed old given mid → HasFlushed mid due new → WroteFront before after (lines_of given ++ lines_of due)
-    → WroteFront before after (lines_of old.held)
-flushed_front old mid new given due before after x y wrote =
-    subst (WroteFront before after)
-    (ap (λ l. l ++ lines_of new.held) (sym (lines_of-append given due)) ∙ sym (lines_of-append (given ++ due) new.held)
-    ∙ ap lines_of (flushed_join old mid new given due x y).held)
-    (wrote_front_more before after (lines_of given ++ lines_of due) (lines_of new.held) wrote)
+pub flushed_fewer : (old new : Sorting) (one : Timed) → HasFlushed old (one ∷ []) new
+    → length new.held < length old.held
+flushed_fewer old new one flushed = omega (arith, ap (λ (l : List Timed). length l) flushed.held)
 
-pub flushed_whole : (old mid new : Sorting) (given due : List Timed) → HasFlushed old given mid
-    → HasFlushed mid due new → new.held ≡ [] → lines_of given ++ lines_of due ≡ lines_of old.held
-flushed_whole old mid new given due x y none =
-    sym (lines_of-append given due)
-    ∙ ap lines_of (sym (append-nil (given ++ due)) ∙ ap (λ l. (given ++ due) ++ l) (sym none)
-    ∙ (flushed_join old mid new given due x y).held)
+-- ---- lines in a buffer
 
-pub flushed_smaller : (mid new : Sorting) (due : List Timed) → HasFlushed mid due new → 0 < length due
-    → length new.held < length mid.held
-flushed_smaller mid new due x some =
-    omega (arith, some, length-append due new.held, ap (λ (l : List Timed). length l) x.held)
+module _ {K : Type 0} (k : SinkGhosts K) (a b : K) where
+  -- lines were appended, and then others
+  pub lined_more : (c : K) (t u v x y : List ℕ) → HasLined k a b t u x → HasLined k b c u v y
+      → HasLined k a c t v (x ++ y)
+  lined_more c t u v x y (p, put, is) (q, more, next) = (
+    p ++ q,
+    HasPut-trans k a b c p q put more,
+    append_assoc p q v ∙ ap (λ l. p ++ l) next ∙ sym (append_assoc p u y) ∙ ap (λ l. l ++ y) is ∙ append_assoc t x y,
+  )
+
+  -- lines were appended, and then a prefix of them and of others was written
+  pub lined_part : (c : Option (List ℕ)) (t u x y : List ℕ) → HasLined k a b t u x
+      → WroteFront (k.written b) c (u ++ y) → WroteFront (k.written a) c (t ++ (x ++ y))
+  lined_part c t u x y (p, put, is) wrote =
+      subst (WroteFront (k.written a) c)
+      (sym (append_assoc p u y) ∙ ap (λ l. l ++ y) is ∙ append_assoc t x y)
+      (wrote_after (k.written a) (k.written b) c p (u ++ y) put.0 wrote)
+
+  -- lines were appended to none, and then put
+  pub lined_put : (c : K) (u x : List ℕ) → HasLined k a b [] u x → HasPut k b c u → HasPut k a c x
+  lined_put c u x (p, put, is) more = subst (HasPut k a c) is (HasPut-trans k a b c p u put more)
+
+  pub lined_front : (c : Option (List ℕ)) (u x : List ℕ) → HasLined k a b [] u x → WroteFront (k.written b) c u
+      → WroteFront (k.written a) c x
+  lined_front c u x (p, put, is) wrote =
+      subst (WroteFront (k.written a) c) is (wrote_after (k.written a) (k.written b) c p u put.0 wrote)
+
+pub lined_nothing : {K : Type 0} (k : SinkGhosts K) (sink : K) (text : List ℕ) → HasLined k sink sink text text []
+lined_nothing k sink text = ([], HasPut-nil k sink, sym (append-nil text))
 
 -- ---- the last squitters
 
@@ -282,7 +190,7 @@ last_part old came before after On on put state sorts =
 pub part_more : (old : Option Sorting) (a b : List Timed) (before after : Option (List ℕ))
     → HasPutPart old a (WroteFront before after) → HasPutPart old (a ++ b) (WroteFront before after)
 part_more old a b before after put state sorts =
-    part_given state (sorted_all 4096 state a) a b (a ++ b) (given_all 4096 state a) before after refl
+    part_given state (sorted_all 4096 state a) a b (a ++ b) (given_all 4096 state a) [] before after refl
     (sorted_so 4096 state a) (put state sorts)
 
 -- ---- results
@@ -290,6 +198,10 @@ part_more old a b before after put state sorts =
 pub on_ok : {X E : Type 0} {A B : Type 0} (r : Result X E) → (A → B) → OnOk r A → OnOk r B
 on_ok (Ok x) f a = f a
 on_ok (Err e) f a = tt
+
+pub always_ok : {X E : Type 0} {A : Type 0} (r : Result X E) → A → OnOk r A
+always_ok (Ok x) a = a
+always_ok (Err e) a = tt
 
 -- three facts of one result
 pub all_ok : {X E : Type 0} (A B C : Type 0) (r : Result X E) → OnOk r A → OnOk r B → OnOk r C → OnOk r (A × B × C)

@@ -118,7 +118,7 @@ others_none old counts others is none =
     sym (ap (λ l. old ++ l) (part_none (sum counts) (codes " of other downlink formats ("
     ++ joined (format_texts 0 counts) ++ codes ")") (sym is ∙ none)) ∙ append-nil old)
 
--- seven texts, one after the other
-pub seven_texts : (a b c d e f g : List ℕ)
-    → (((((a ++ b) ++ c) ++ d) ++ e) ++ f) ++ g ≡ a ++ b ++ c ++ d ++ e ++ f ++ g
-seven_texts a b c d e f g = simp append_assoc refl
+-- eight texts, one after the other
+pub eight_texts : (a b c d e f g h : List ℕ)
+    → ((((((a ++ b) ++ c) ++ d) ++ e) ++ f) ++ g) ++ h ≡ a ++ b ++ c ++ d ++ e ++ f ++ g ++ h
+eight_texts a b c d e f g h = simp append_assoc refl

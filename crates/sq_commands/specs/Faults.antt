@@ -6,7 +6,7 @@ use Rattle.sq_track.specs.Faults.{track_fault_text}
 use Rattle.sq_track.specs.declared.heard.TrackFault.TheVariants as tracks
 use Rattle.sq_commands.specs.declared.arguments.ArgumentFault.{ArgumentFault}
 use Rattle.sq_commands.specs.declared.arguments.ArgumentFault.TheVariants.{Format, Kind, Parity, Address, Feet, Limit}
-use Rattle.sq_commands.specs.declared.arguments.ArgumentFault.TheVariants.{NoLimit, Window, Site, Lat, Lon, Reorder}
+use Rattle.sq_commands.specs.declared.arguments.ArgumentFault.TheVariants.{NoLimit, Window, Site, Lat, Lon, Reorder, Leap}
 use Rattle.sq_commands.specs.declared.status.Status.TheVariants.{Misused}
 use Rattle.sq_commands.specs.Replies.{ReplyParts, reporting}
 
@@ -24,6 +24,7 @@ argument_text Site = codes "site needs lat and lon"
 argument_text (Lat fault) = codes "lat " ++ angle_fault_text fault
 argument_text (Lon fault) = codes "lon " ++ angle_fault_text fault
 argument_text Reorder = codes "bad reorder"
+argument_text Leap = codes "bad leap"
 
 -- the reply to an invalid argument
 abbrev pub misused : ArgumentFault → ReplyParts

@@ -1,10 +1,12 @@
 -- The command `feed`.
 use Rattle.std.specs.Prelude.{◌≡◌, ◌≢◌, ◌++◌, ◌⊎◌, ℕ, List, [], ◌∷◌, Option, None, Some, Result, Ok, Err, MatchResult, codes}
-use Rattle.std.specs.Prelude.{Bool, false, map, true}
+use Rattle.std.specs.Prelude.{Bool, false, if◌then◌else◌, map, true}
 use Rattle.std.specs.Io.KnownBytes.{IsAtEnd}
 use Rattle.sq_devices.specs.Changes.{FinishedOnce, Sent, Taken, TookAll, TookPart, TookSome, Unfinished}
 use Rattle.sq_devices.specs.Changes.{Written, Wrote}
 use Rattle.sq_devices.specs.Clocks.{Times}
+use Rattle.sq_devices.specs.Calls.{HasPut}
+use Rattle.sq_devices.specs.declared.device.Sink.{Ghosts as SinkGhosts}
 use Rattle.sq_devices.specs.Device.{IsPrefixOf, WroteFront}
 use Rattle.sq_feed.specs.Counts.{Tally}
 use Rattle.sq_feed.specs.Ears.{Hears, ear_after_all, told_of_all}
@@ -30,22 +32,22 @@ use Rattle.sq_commands.specs.declared.status.Status.TheVariants.{Good, Refused}
 use Rattle.sq_commands.specs.Arguments.{IsFaultUnless}
 use Rattle.sq_commands.specs.Faults.{IsMisuse}
 use Rattle.sq_commands.specs.Replies.{ReplyParts, broken_off, reporting}
-use Rattle.sq_commands.specs.Summary.{stranger_text, summary_text}
+use Rattle.sq_commands.specs.Summary.{are_all_damaged, stranger_text, summary_text}
 
 -- ---- calls of a feed
 
--- a gap of more milliseconds is a jump of the receiver's clock: 10 minutes
-abbrev pub leap : ℕ
-leap = 600000
+-- a gap of more milliseconds is a jump of the receiver's clock, if no other is given: 10 minutes
+abbrev pub usual_leap : ℕ
+usual_leap = 600000
 
 -- how an input is heard: its timestamps go back by at most `reorder`; with `all_formats` frames of other downlink
 -- formats than 17 are given too
 abbrev pub manner_of : FeedOptions → Bool → Manner
 manner_of options is_live = record {
-  leap = leap;
+  leap = options.leap;
   late = options.reorder;
   is_live = is_live;
-  ignores_clock = false;
+  ignores_clock = options.ignores_clock;
   all_formats = options.all_formats;
 }
 
@@ -114,6 +116,10 @@ waiting_in (Some order) = order.held
 abbrev pub HasPutLast : Option Sorting → List Timed → (List ℕ → Type 0) → Type 0
 HasPutLast old came Of = (state : Sorting) → Sorts old state
     → Of (lines_of (given_all 4096 state came) ++ lines_of (sorted_all 4096 state came).held)
+
+-- Lines were appended to those in a buffer. The sink was given the first of all these, and the buffer has the others.
+abbrev pub HasLined : {K : Type 0} → SinkGhosts K → (old new : K) → (before after lines : List ℕ) → Type 0
+HasLined k old new before after lines = (text : List ℕ) × HasPut k old new text × (text ++ after ≡ before ++ lines)
 
 -- with these bytes a feed went on, and this holds of their squitters
 abbrev pub HasFedText : ℕ → Feeding → List ℕ → Feeding → (List Timed → Type 0) → Type 0
@@ -188,38 +194,45 @@ abbrev pub IsNoSource : Option (List ℕ) → Type 0
 IsNoSource word = (format : Option Format) → ¬ IsSourceWord word format
 
 -- a source without a known format is refused
-abbrev pub status_at_end : Option Stranger → Status
-status_at_end None = Good
-status_at_end (Some stranger) = Refused
+abbrev pub status_at_end : Tally → Option Stranger → Status
+status_at_end counts None = if are_all_damaged counts then Refused else Good
+status_at_end counts (Some stranger) = Refused
 
 -- the report at the end: the summary, or the kind of source without frames
 abbrev pub text_at_end : Tally → Option Stranger → List ℕ
 text_at_end counts None = summary_text counts
 text_at_end counts (Some stranger) = stranger_text stranger
 
--- milliseconds, as 1 to 20 digits of a number below 2^64; 0 if none is given
-abbrev pub IsReorder : Option (List ℕ) → ℕ → Type 0
-IsReorder None reorder = reorder ≡ 0
-IsReorder (Some word) reorder = IsDecimalText word reorder
+-- milliseconds, as 1 to 20 digits of a number below 2^64; the usual ones if none are given
+abbrev pub IsMillis : (usual : ℕ) → Option (List ℕ) → ℕ → Type 0
+IsMillis usual None millis = millis ≡ usual
+IsMillis usual (Some word) millis = IsDecimalText word millis
+
+-- no milliseconds are given so
+abbrev pub IsNoMillis : (usual : ℕ) → Option (List ℕ) → Type 0
+IsNoMillis usual word = (n : ℕ) → ¬ IsMillis usual word n
 
 -- the words spell these options
 pub record IsFeedOptions (words : AskedFeed) (options : FeedOptions) : Type 0 where
   pub format_is : IsSourceWord words.format options.format
-  pub reorder_is : IsReorder words.reorder options.reorder
+  pub reorder_is : IsMillis 0 words.reorder options.reorder
+  pub leap_is : IsMillis usual_leap words.leap options.leap
+  pub arrival_is : options.ignores_clock ≡ words.arrival
   pub all_is : options.all_formats ≡ words.all
 
 -- the first error of the arguments, in reading order
 abbrev pub IsFeedFault : AskedFeed → ArgumentFault → Type 0
 IsFeedFault words fault =
     IsFaultUnless ((format : Option Format) × IsSourceWord words.format format) fault faults.Format
-    ((fault ≡ faults.Reorder) × ((n : ℕ) → ¬ IsReorder words.reorder n))
+    (IsFaultUnless ((n : ℕ) × IsMillis 0 words.reorder n) fault faults.Reorder
+    ((fault ≡ faults.Leap) × IsNoMillis usual_leap words.leap))
 
 abbrev pub IsFeedReading : AskedFeed → Result FeedOptions ArgumentFault → Type 0
 IsFeedReading words reading = MatchResult reading (IsFeedOptions words) (IsFeedFault words)
 
 -- the reply of a run, by its result: the end of the source is reported, or the reason why the run stopped early
 abbrev pub feed_reply : Result FeedEnd RunFault → ReplyParts
-feed_reply (Ok end) = reporting (status_at_end end.stranger) (text_at_end end.counts end.stranger)
+feed_reply (Ok end) = reporting (status_at_end end.counts end.stranger) (text_at_end end.counts end.stranger)
 feed_reply (Err fault) = broken_off fault
 
 -- a run over the input

@@ -13,6 +13,7 @@ pub mod Formats
 pub mod Squitters
 pub mod Check
 pub mod Heard
+pub mod Holding
 pub mod Tracking
 pub mod SlowAnswers
 pub mod TrueAnswers

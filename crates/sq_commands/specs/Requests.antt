@@ -32,6 +32,8 @@ pub record AskedTrack : Type 0 where
 pub record AskedFeed : Type 0 where
   pub format : Option Text
   pub reorder : Option Text
+  pub leap : Option Text
+  pub arrival : Bool
   pub all : Bool
 
 -- a command that reads no input, with its values
@@ -84,6 +86,8 @@ abbrev pub asked_feed : FeedWords → AskedFeed
 asked_feed words = record {
   format = option_copied words.format;
   reorder = option_copied words.reorder;
+  leap = option_copied words.leap;
+  arrival = words.arrival;
   all = words.all;
 }
 

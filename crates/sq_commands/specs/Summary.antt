@@ -1,5 +1,5 @@
 -- The summary of a feed: how many items were written, and what became of the others.
-use Rattle.std.specs.Prelude.{◌==◌, ◌+◌, ◌++◌, ℕ, Bool, List, [], ◌∷◌, codes, decimal, false, sum, true, if◌then◌else◌}
+use Rattle.std.specs.Prelude.{◌==◌, ◌+◌, ◌++◌, ℕ, Bool, List, [], ◌∷◌, codes, decimal, false, sum, true, if◌then◌else◌, ◌&&◌, not}
 use Rattle.std.specs.List.{flat_map}
 use Rattle.sq_feed.specs.Counts.{Tally}
 use Rattle.sq_feed.specs.declared.message.Stranger.{Stranger}
@@ -43,11 +43,25 @@ abbrev pub other_formats : List ℕ → List ℕ
 other_formats counts =
     part (sum counts) (codes " of other downlink formats (" ++ joined (format_texts 0 counts) ++ codes ")")
 
--- the summary: how many frames were written, and the counts of other items that are not 0
-unfoldable pub summary_text : Tally → List ℕ
-summary_text tally = decimal tally.written ++ codes " written" ++ other_formats tally.formats
+-- how many frames were written, and the counts of other items that are not 0
+unfoldable pub counts_text : Tally → List ℕ
+counts_text tally = decimal tally.written ++ codes " written" ++ other_formats tally.formats
     ++ part tally.mode_ac (codes " of Mode A/C") ++ part tally.multilaterated (codes " multilaterated")
+    ++ part tally.receiver_ids (codes " receiver ids")
     ++ part tally.aside (codes " set aside") ++ part tally.damaged (codes " damaged")
+
+-- there were items, and all of them are damaged
+abbrev pub are_all_damaged : Tally → Bool
+are_all_damaged tally = not (tally.found == 0) && (tally.damaged == tally.found)
+
+-- what to do if all items are damaged
+abbrev pub advice : Tally → List ℕ
+advice tally =
+    if are_all_damaged tally then codes ": try without --format; the times of a table are seconds" else []
+
+-- the summary: the counts, and what to do
+abbrev pub summary_text : Tally → List ℕ
+summary_text tally = counts_text tally ++ advice tally
 
 -- what a source without frames is, and what to do
 abbrev pub stranger_text : Stranger → List ℕ

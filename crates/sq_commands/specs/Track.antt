@@ -23,7 +23,8 @@ use Rattle.sq_commands.specs.declared.track.Hearing.{Hearing}
 use Rattle.sq_commands.specs.Formats.{IsFormatWord, Telling, Writers, told_by}
 use Rattle.sq_commands.specs.Heard.{HeardSquitter, heard_telling}
 use Rattle.sq_commands.specs.SlowAnswers.{AreTrueAfter}
-use Rattle.sq_commands.specs.Tracking.{AreHeardLines, Tracking, track_manner}
+use Rattle.sq_commands.specs.Holding.{AreHeardLinesBy}
+use Rattle.sq_commands.specs.Tracking.{AreHeardLines, Past, track_manner}
 
 -- ---- a run over a log
 
@@ -42,8 +43,21 @@ abbrev pub IsTracked : Telling HeardSquitter → Result Tally RunFault → Taken
 IsTracked telling result input output old new =
     HasRun (WantsAt track_manner new) (HasTracked telling old new result output) result input output
 
+-- A tracker has heard these lines, and so much of their answers was written as the result says. Each answer follows
+-- from what the tracker held before the line, whatever that was.
+abbrev pub HasTrackedBy : Telling HeardSquitter → (old new : Held) → Result Tally RunFault → Written → List (List ℕ)
+    → Type 0
+HasTrackedBy telling old new result output lines = (reader : TimedReader) (writers : Writers)
+    → (answers : List (Answer HeardSquitter)) × AreHeardLinesBy reader old lines answers new
+    × WroteAnswers result output (told_by telling writers) answers
+
+-- the result of a run over an input, by any contents of the tracker before it
+abbrev pub IsTrackedBy : Telling HeardSquitter → Result Tally RunFault → Taken → Written → (old new : Held) → Type 0
+IsTrackedBy telling result input output old new =
+    HasRun (WantsAt track_manner new) (HasTrackedBy telling old new result output) result input output
+
 -- how `track` answers texts, by the tracker that it borrows
-abbrev pub hearing_manner : {F A : Type 0} → Manner (Hearing F A) Tracking HeardSquitter
+abbrev pub hearing_manner : {F A : Type 0} → Manner (Hearing F A) Past HeardSquitter
 hearing_manner = record {
   stands_for = λ client. track_manner.stands_for client.tracker.now;
   way = track_manner.way;

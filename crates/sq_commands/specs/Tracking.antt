@@ -1,10 +1,9 @@
 -- The answers of `track` to the lines of a log, each by the squitters before it.
-use Rattle.std.specs.Prelude.{◌≡◌, ◌≢◌, ◌==◌, ℕ, List, [], ◌∷◌, find, None, Some, Result, Ok, Err}
+use Rattle.std.specs.Prelude.{◌≡◌, ◌≢◌, ◌↔◌, ◌⊎◌, ◌==◌, ℕ, List, [], ◌∷◌, find, None, Some, Result, Ok, Err}
 use Rattle.sq_message.specs.declared.squitter.Squitter.{Squitter}
 use Rattle.sq_message.specs.Parts.{squitter_parts}
 use Rattle.sq_message.specs.Places.{IsPosition}
 use Rattle.sq_text.specs.declared.faults.LineFault.{LineFault}
-use Rattle.sq_text.specs.declared.faults.LineFault.TheVariants as line_faults
 use Rattle.sq_message.specs.declared.received.Received.{Received}
 use Rattle.sq_text.specs.Timed.{IsTimedText, TimedReader}
 use Rattle.sq_log.specs.Content.{Answer, answer_by}
@@ -13,20 +12,16 @@ use Rattle.sq_log.specs.declared.job.Verdict.{Verdict}
 use Rattle.sq_log.specs.declared.job.Verdict.TheVariants as verdicts
 use Rattle.sq_track.specs.declared.heard.Heard.{Heard}
 use Rattle.sq_track.specs.declared.heard.TrackFault.{TrackFault}
-use Rattle.sq_track.specs.declared.heard.TrackFault.TheVariants.{Memory, MomentBack}
+use Rattle.sq_track.specs.declared.heard.TrackFault.TheVariants.{Memory}
+use Rattle.sq_track.specs.ByEntries.{IsWelcomeTo}
 use Rattle.sq_track.specs.Held.{Held, StandsFor, present_of, settings}
 use Rattle.sq_track.specs.History.{History}
 use Rattle.sq_track.specs.Replies.{Settings, IsAcceptable, IsHistory, IsReply, history_after}
 use Rattle.sq_commands.specs.Heard.{HeardSquitter}
+pub use Rattle.sq_commands.specs.Holding.{found_of}
+use Rattle.sq_commands.specs.Holding.{Holding, answer_held, held_read}
 
 -- ---- by the history
-
--- The result for a squitter, by the tracker's reply. If memory holds, a timestamp before the last one and a full table
--- are the only faults.
-abbrev pub found_of : Received → Result Heard TrackFault → Result HeardSquitter LineFault
-found_of timed (Ok heard) = Ok (record { timed = timed; heard = heard })
-found_of timed (Err (MomentBack last)) = Err (line_faults.MomentBack last)
-found_of timed (Err fault) = Err line_faults.Full
 
 -- the answer to the reading of a line, and the history after it; an empty or invalid line changes nothing
 abbrev pub IsHeardLine : Settings → History → Answer Received → Answer HeardSquitter → History → Type 0
@@ -86,9 +81,9 @@ past_read past (Ok timed) =
     past_with past timed (reply_by past timed)
     (past.replier.replies past.settings past.history past.accepted timed.moment timed.squitter)
 
--- how `track` answers texts
-abbrev pub track_way : Answerer Tracking HeardSquitter
-track_way = record {
+-- how `track` answers texts by a history
+abbrev pub history_way : Answerer Tracking HeardSquitter
+history_way = record {
   answer = λ past text. answer_read past (past.reader.read text);
   after = λ past text. past_read past (past.reader.read text);
 }
@@ -96,6 +91,30 @@ track_way = record {
 -- the tracker stands for the history, under the settings
 abbrev pub IsTracking : Held → Tracking → Type 0
 IsTracking t past = StandsFor t past.history × (settings t ≡ past.settings)
+
+-- ---- by the history, or by the contents of the tracker
+
+-- the past of a line: a history that the tracker stands for, or any contents of the tracker
+pub data Past : Type 0 where
+  ByHistory : (past : Tracking) → Past
+  ByEntries : (past : Holding) → Past
+
+abbrev pub answer_text : Past → List ℕ → Result HeardSquitter LineFault
+answer_text (ByHistory past) text = answer_read past (past.reader.read text)
+answer_text (ByEntries past) text = answer_held past (past.reader.read text)
+
+abbrev pub past_text : Past → List ℕ → Past
+past_text (ByHistory past) text = ByHistory (past_read past (past.reader.read text))
+past_text (ByEntries past) text = ByEntries (held_read past (past.reader.read text))
+
+-- how `track` answers texts
+abbrev pub track_way : Answerer Past HeardSquitter
+track_way = record { answer = answer_text; after = past_text }
+
+-- the tracker has this past
+abbrev pub IsTrackingBy : Held → Past → Type 0
+IsTrackingBy t (ByHistory past) = IsTracking t past
+IsTrackingBy t (ByEntries past) = t ≡ past.held
 
 -- the squitter is a position of an address that is not present
 abbrev pub IsNewPosition : Held → Squitter → Type 0
@@ -106,14 +125,16 @@ IsNewPosition t squitter = IsPosition (squitter_parts squitter).me
 abbrev pub IsWelcome : Held → Received → Type 0
 IsWelcome t timed = (h : History) → StandsFor t h → IsAcceptable (settings t) h timed.moment timed.squitter
 
--- the tracker may want memory for the text: it spells a position of a new address that would be accepted
+-- the tracker may want memory for the text: it spells a position of a new address that would be accepted, by each
+-- history and by what the tracker holds
 abbrev pub WantsMemory : Held → List ℕ → Type 0
 WantsMemory t text =
     (timed : Received) × IsTimedText text timed × IsNewPosition t timed.squitter × IsWelcome t timed
+    × IsWelcomeTo timed.moment timed.squitter t
 
 -- how `track` answers texts, by its tracker
-abbrev pub track_manner : Manner Held Tracking HeardSquitter
-track_manner = record { stands_for = IsTracking; way = track_way; wants = WantsMemory }
+abbrev pub track_manner : Manner Held Past HeardSquitter
+track_manner = record { stands_for = IsTrackingBy; way = track_way; wants = WantsMemory }
 
 -- a squitter was heard: for each history that the tracker represented there is a reply with this result, and the
 -- tracker now represents the history after it
@@ -134,3 +155,13 @@ IsTimedHeard verdicts.NoMemory timed old new = (new ≡ old) × IsNewPosition ol
 abbrev pub OnePast : Type 0
 OnePast = (a b : Tracking) (timed : Received) → a.settings ≡ b.settings → a.history ≡ b.history
     → reply_by a timed ≡ reply_by b timed
+
+-- a tracker has a past by each history that it represents
+abbrev pub SomeTracking : Type 0
+SomeTracking = (t : Held) (h : History) → StandsFor t h → (past : Tracking) × (past.history ≡ h) × IsTracking t past
+
+-- a past of a tracker is a history that it represents, or what it holds
+abbrev pub PastExactly : Type 0
+PastExactly = (t : Held) (past : Past) → IsTrackingBy t past
+    ↔ (((history : Tracking) × (past ≡ ByHistory history) × IsTracking t history)
+    ⊎ ((holding : Holding) × (past ≡ ByEntries holding) × (t ≡ holding.held)))

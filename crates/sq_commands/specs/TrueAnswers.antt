@@ -1,10 +1,10 @@
 -- A proof that the answers of `track` are true in slow worlds. The job's ghost law cites it, so it is in specs/.
 use Rattle.std.specs.Prelude.{◌+◌, ℕ, List, [], ◌∷◌, Some, Result, Ok, Err, refl}
-use Rattle.std.proofs.Common.{sym, subst}
+use Rattle.std.proofs.Common.{◌≡◌, ◌∙◌, ap, sym, subst}
 use Rattle.sq_message.specs.declared.received.Received.{Received}
 use Rattle.sq_text.specs.declared.faults.LineFault.{LineFault}
 use Rattle.sq_text.specs.Timed.{TimedReader}
-use Rattle.sq_log.specs.Answers.{after_content, answers_to}
+use Rattle.sq_log.specs.Answers.{after_content, answers_to, past_after}
 use Rattle.sq_log.specs.Content.{Answer, Content, Long, Empty, Text, answer_content, content}
 use Rattle.sq_log.specs.Logs.{AreAnswers, told_from}
 use Rattle.sq_log.specs.declared.log.Answer.{Answer as Told}
@@ -20,8 +20,8 @@ use Rattle.sq_track.proofs.Histories.SomeAnswer.{some_reply}
 use Rattle.sq_track.proofs.Worlds.TrueWorlds.{slow_replies_are_true}
 use Rattle.sq_commands.specs.Heard.{HeardSquitter}
 use Rattle.sq_commands.specs.SlowAnswers.{AreTrueAfter, AreTrueAnswers, heard_in, received_in}
-use Rattle.sq_commands.specs.Tracking.{IsTracking, Replier, Tracking, answer_read, found_of, past_read, past_with}
-use Rattle.sq_commands.specs.Tracking.{reply_by, track_manner, track_way}
+use Rattle.sq_commands.specs.Tracking.{ByHistory, IsTracking, Past, Replier, Tracking, answer_read}
+use Rattle.sq_commands.specs.Tracking.{found_of, history_way, past_read, past_with, reply_by, track_manner, track_way}
 
 -- each text has a reading
 pub some_reader : TimedReader
@@ -39,6 +39,30 @@ replier = record {
 abbrev pub start : TimedReader → (s : Settings) (h : History) → IsHistory s h → Tracking
 start reader s h accepted =
     record { reader = reader; replier = replier; settings = s; history = h; accepted = accepted }
+
+-- a history's past stays one
+after_by_history : (past : Tracking) (stands : Content)
+    → after_content (track_way.after (ByHistory past)) (ByHistory past) stands
+    ≡ ByHistory (after_content (history_way.after past) past stands)
+after_by_history past Long = refl
+after_by_history past Empty = refl
+after_by_history past (Text text) = refl
+
+pub answers_by_history : (past : Tracking) (lines : List (List ℕ))
+    → answers_to track_way (ByHistory past) lines ≡ answers_to history_way past lines
+answers_by_history past [] = refl
+answers_by_history past (line ∷ lines) =
+    let next = after_content (history_way.after past) past (content line) in
+    ap (λ (answers : List (Answer HeardSquitter)). answer_content (history_way.answer past) (content line) ∷ answers)
+    (ap (λ (p : Past). answers_to track_way p lines) (after_by_history past (content line))
+    ∙ answers_by_history next lines)
+
+pub past_by_history : (past : Tracking) (lines : List (List ℕ))
+    → past_after track_way (ByHistory past) lines ≡ ByHistory (past_after history_way past lines)
+past_by_history past [] = refl
+past_by_history past (line ∷ lines) =
+    ap (λ (p : Past). past_after track_way p lines) (after_by_history past (content line))
+    ∙ past_by_history (after_content (history_way.after past) past (content line)) lines
 
 -- the answers to good lines are the tracker's replies, one after another, after the past's history
 abbrev AreRepliesAfter : Tracking → ℕ → List (Answer HeardSquitter) → Type 0
@@ -63,24 +87,24 @@ text_first past (Ok timed) rest n later =
     (past.replier.replies past.settings past.history past.accepted timed.moment timed.squitter) rest n later
 
 line_first : (past : Tracking) (stands : Content) (rest : List (Answer HeardSquitter)) (n : ℕ)
-    → AreRepliesAfter (after_content (track_way.after past) past stands) (n + 1) rest
-    → AreRepliesAfter past n (answer_content (track_way.answer past) stands ∷ rest)
+    → AreRepliesAfter (after_content (history_way.after past) past stands) (n + 1) rest
+    → AreRepliesAfter past n (answer_content (history_way.answer past) stands ∷ rest)
 line_first past Long rest n later = later
 line_first past Empty rest n later = later
 line_first past (Text text) rest n later = text_first past (past.reader.read text) rest n later
 
 replies_in : (past : Tracking) (lines : List (List ℕ)) (n : ℕ)
-    → AreRepliesAfter past n (answers_to track_way past lines)
+    → AreRepliesAfter past n (answers_to history_way past lines)
 replies_in past [] n = tt
 replies_in past (line ∷ lines) n =
-    let next = after_content (track_way.after past) past (content line) in
-    line_first past (content line) (answers_to track_way next lines) n (replies_in next lines (n + 1))
+    let next = after_content (history_way.after past) past (content line) in
+    line_first past (content line) (answers_to history_way next lines) n (replies_in next lines (n + 1))
 
 -- the answers to these lines are true after the past's history
 pub true_after : (tracker : Held) (past : Tracking) (lines : List (List ℕ)) → IsTracking tracker past
-    → AreTrueAfter tracker past.history (told_from 1 (answers_to track_way past lines))
+    → AreTrueAfter tracker past.history (told_from 1 (answers_to history_way past lines))
 true_after tracker past lines tracks world arrivals arises slow follows among is =
-    let told = told_from 1 (answers_to track_way past lines) in
+    let told = told_from 1 (answers_to history_way past lines) in
     slow_replies_are_true (settings tracker) world arrivals past.history (heard_in told) tracks.0.accepted arises slow
     follows among
     (subst (λ received. AreReplies (settings tracker) past.history received (heard_in told)) (sym is)
@@ -92,4 +116,6 @@ pub true_answers : (old now : Held) (tally : Tally) (lines : List (List ℕ)) (a
     → AreAnswers track_manner old now tally lines answers → AreTrueAnswers old answers
 true_answers old now tally lines answers told history stands =
     let past = start some_reader (settings old) history stands.accepted in
-    subst (AreTrueAfter old history) (sym (told past (stands, refl)).1) (true_after old past lines (stands, refl))
+    subst (λ (told : List (Told HeardSquitter)). AreTrueAfter old history told)
+    (sym ((told (ByHistory past) (stands, refl)).1 ∙ ap (told_from 1) (answers_by_history past lines)))
+    (true_after old past lines (stands, refl))

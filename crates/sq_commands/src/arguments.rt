@@ -65,6 +65,7 @@ pub(crate) enum ArgumentFault {
     Lat(AngleFault),
     Lon(AngleFault),
     Reorder,
+    Leap,
 }
 
 impl ArgumentFault {
@@ -87,6 +88,7 @@ impl ArgumentFault {
             ArgumentFault::Lat(fault) => push_coordinate(text, "lat ", fault),
             ArgumentFault::Lon(fault) => push_coordinate(text, "lon ", fault),
             ArgumentFault::Reorder => text.push_str("bad reorder"),
+            ArgumentFault::Leap => text.push_str("bad leap"),
         }
     }
 }

@@ -3,7 +3,7 @@ ghost use Rattle.std.specs.Prelude.{◌≡◌, ℕ, IfErr, IfOk, Ok, OnErr, None
 ghost use Rattle.sq_devices.specs.Changes.{TookReported, taken_from, written_on};
 ghost use Rattle.sq_devices.specs.Clocks.{times_of};
 ghost use Rattle.sq_commands.specs.Requests.{asked_feed};
-ghost use Rattle.sq_commands.specs.Feed.{HasFedAll, IsFed, IsFeedReading, IsFeedRun, IsFeedRunIn, IsNoSource, IsReorder};
+ghost use Rattle.sq_commands.specs.Feed.{HasFedAll, IsFed, IsFeedReading, IsFeedRun, IsFeedRunIn, IsMillis, IsNoMillis, IsNoSource};
 ghost use Rattle.sq_commands.specs.Feed.{IsSourceWord, feed_reply, manner_of};
 ghost use Rattle.sq_commands.specs.Replies.{reply_parts};
 
@@ -12,17 +12,17 @@ use crate::feed_lines::{FeedText, order_of, put_end, put_piece};
 use crate::replies::{Reply, ReplyText, ReportLine, end_reporting, refuse_argument, stop};
 use crate::requests::FeedWords;
 use crate::status::Status;
-use crate::summary::stranger_text;
+use crate::summary::{are_all_damaged, stranger_text};
 use sq_devices::{Clock, Failed, Sink, Source};
 use sq_feed::{Counts, Feed, Format, Manner, Stranger};
 use sq_log::RunFault;
 use sq_text::read_decimal;
 
-// A gap of more milliseconds is a jump of the receiver's clock: 10 minutes.
+// A gap of more milliseconds is a jump of the receiver's clock, if no other is given: 10 minutes.
 const LEAP: u64 = 600_000;
 
 // How many bytes a get asks for.
-const PIECE: usize = 4096;
+const PIECE: usize = 16_384;
 
 /// How `feed` reads and writes.
 #[derive(Clone, Copy)]
@@ -31,6 +31,10 @@ pub struct FeedOptions {
     pub format: Option<Format>,
     /// By how much (ms) frames may come late. Lines are sorted by time. With 0, they stay in the order of the frames.
     pub reorder: u64,
+    /// A gap of more milliseconds is a jump of the source's clock.
+    pub leap: u64,
+    /// Whether the receiver's clock is ignored, so that frames get the times of their arrival.
+    pub ignores_clock: bool,
     /// Whether frames of other downlink formats than 17 are written too.
     pub all_formats: bool,
 }
@@ -100,10 +104,10 @@ fn manner_of(options: &FeedOptions, is_live: bool) -> Manner
     ensures { result ≡ manner_of options.now is_live }
 {
     Manner {
-        leap: LEAP,
+        leap: options.leap,
         late: options.reorder,
         is_live,
-        ignores_clock: false,
+        ignores_clock: options.ignores_clock,
         all_formats: options.all_formats,
     }
 }
@@ -152,7 +156,11 @@ fn reply_at_end(end: &FeedEnd) -> Reply
             end_reporting(Status::Refused, line)
         }
         None => Reply {
-            status: Status::Good,
+            status: if are_all_damaged(&end.counts) {
+                Status::Refused
+            } else {
+                Status::Good
+            },
             output: None,
             error: Some(ReportLine::Summary(end.counts)),
         },
@@ -164,25 +172,28 @@ fn read_feed_options(words: &FeedWords<'_>) -> Result<FeedOptions, ArgumentFault
     ensures { IsFeedReading (asked_feed words.now) result }
 {
     let format = read_source(words.format)?;
-    let reorder = read_reorder(words.reorder)?;
+    let reorder = read_millis(words.reorder, 0, ArgumentFault::Reorder)?;
+    let leap = read_millis(words.leap, LEAP, ArgumentFault::Leap)?;
     Ok(FeedOptions {
         format,
         reorder,
+        leap,
+        ignores_clock: words.arrival,
         all_formats: words.all,
     })
 }
 
-// Reads one to twenty digits of a number below 2^64.
-fn read_reorder(word: Option<&str>) -> Result<u64, ArgumentFault>
-    ensures ok { IfOk result (IsReorder (option_copied word.entry)) }
-    ensures err { OnErr result ((n : ℕ) → ¬ IsReorder (option_copied word.entry) n) }
-    ensures fault { IfErr result (λ fault. fault ≡ ArgumentFault.Reorder) }
+// Reads one to twenty digits of a number below 2^64, or returns the usual one if no word is given.
+fn read_millis(word: Option<&str>, usual: u64, fault: ArgumentFault) -> Result<u64, ArgumentFault>
+    ensures ok { IfOk result (IsMillis usual (option_copied word.entry)) }
+    ensures err { OnErr result (IsNoMillis usual (option_copied word.entry)) }
+    ensures fault { IfErr result (λ f. f ≡ fault) }
 {
     match word {
-        None => Ok(0),
+        None => Ok(usual),
         Some(word) => match read_decimal(word.as_bytes()) {
-            Some(reorder) => Ok(reorder),
-            None => Err(ArgumentFault::Reorder),
+            Some(millis) => Ok(millis),
+            None => Err(fault),
         },
     }
 }

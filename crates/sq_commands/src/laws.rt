@@ -18,6 +18,7 @@ ghost use Rattle.sq_log.specs.Content.{Answer as LineAnswer};
 ghost use Rattle.sq_log.specs.Logs.{AreAnswers, told_from};
 ghost use Rattle.sq_log.specs.declared.log.Answer.{Answer};
 ghost use Rattle.sq_commands.specs.Track.{HasTracked};
+ghost use Rattle.sq_commands.specs.Holding.{AreHeardLinesBy};
 ghost use Rattle.sq_commands.specs.Tracking.{AreHeardLines, track_manner};
 
 use crate::answers::HeardSquitter;
@@ -58,6 +59,15 @@ pub fn alike_outputs_end_alike<K: Sink, L: Sink>()
 pub fn true_answers()
     ensures { (start now : Held) (tally : Tally) (lines : List (List ℕ)) (answers : List (Answer HeardSquitter))
         → AreAnswers track_manner start now tally lines answers → AreTrueAnswers start answers }
+{}
+
+/// All answers of a log machine of `track` follow from what its tracker held at the start, whatever that was, and in
+/// pieces of any size. This needs no history, so it holds of each restored tracker.
+pub fn answers_by_entries()
+    ensures { (start now : Held) (tally : Tally) (lines : List (List ℕ)) (answers : List (Answer HeardSquitter))
+        (reader : TimedReader) → AreAnswers track_manner start now tally lines answers
+        → (list : List (LineAnswer HeardSquitter)) × AreHeardLinesBy reader start lines list now
+        × (answers ≡ told_from 1 list) }
 {}
 
 /// Takes the first step of a log machine of `track`. Its answer is true in a slow world, by the promise of the step.

@@ -1,7 +1,7 @@
 //! Guards of the definitions: each has one value, some value or an exact condition, so none can be weakened unnoticed.
 //! A function with an empty body does nothing: its contract is the statement.
-ghost use Rattle.std.specs.Prelude.{◌≡◌, ◌≢◌, ◌≤◌, ◌↔◌, ◌⊎◌, ◌++◌, ◌∷◌, [], List, ℕ, Contains, Err, IsTrue, None, Ok};
-ghost use Rattle.std.specs.Prelude.{◌==◌, Option, Result, Some, codes, find, if◌then◌else◌, map};
+ghost use Rattle.std.specs.Prelude.{◌≡◌, ◌≢◌, ◌≤◌, ◌↔◌, ◌⊎◌, ◌++◌, ◌∷◌, [], List, ℕ, Contains, Err, IsTrue, MatchOption, None, Ok};
+ghost use Rattle.std.specs.Prelude.{◌==◌, Option, Result, Some, codes, false, find, if◌then◌else◌, map, true};
 ghost use Rattle.std.specs.List.{AllZip};
 ghost use Rattle.sq_text.specs.declared.rows.Form.TheVariants as forms;
 ghost use Rattle.sq_text.specs.Rows.{Blank, Number, Word, cells, header_text, row_room};
@@ -11,7 +11,7 @@ ghost use Rattle.sq_devices.specs.Clocks.{times_of};
 ghost use Rattle.sq_feed.specs.Counts.{Tally as Counts};
 ghost use Rattle.sq_feed.specs.declared.machine.Format.{Format as SourceFormat};
 ghost use Rattle.sq_log.specs.Answers.{WantsAt};
-ghost use Rattle.sq_log.specs.Content.{Text, answer_by, content};
+ghost use Rattle.sq_log.specs.Content.{Answer as Answered, Text, answer_by, content};
 ghost use Rattle.sq_log.specs.Runs.{AreAnswered, IsClosedBy, WroteAnswers};
 ghost use Rattle.sq_log.specs.Faults.{run_fault_text};
 ghost use Rattle.sq_log.specs.declared.run.RunFault.{RunFault};
@@ -20,10 +20,11 @@ ghost use Rattle.sq_log.specs.declared.log.Tally.{Tally};
 ghost use Rattle.sq_message.specs.Parts.{squitter_parts};
 ghost use Rattle.sq_message.specs.Places.{IsPosition};
 ghost use Rattle.sq_message.specs.declared.received.Received.{Received};
-ghost use Rattle.sq_text.specs.Timed.{IsTimedText};
+ghost use Rattle.sq_text.specs.Timed.{IsTimedText, TimedReader};
 ghost use Rattle.sq_text.specs.declared.faults.LineFault.{LineFault};
 ghost use Rattle.sq_track.specs.Faults.{track_fault_label};
 ghost use Rattle.sq_track.specs.declared.heard.TrackFault.TheVariants as tracks;
+ghost use Rattle.sq_track.specs.ByEntries.{IsWelcomeTo};
 ghost use Rattle.sq_track.specs.Held.{Held, StandsFor, made_with, present_of, settings};
 ghost use Rattle.sq_track.specs.History.{History};
 ghost use Rattle.sq_track.specs.Replies.{IsAcceptable};
@@ -45,11 +46,12 @@ ghost use Rattle.sq_commands.specs.Replies.{IsDelivered, IsReported, ReplyParts,
 ghost use Rattle.sq_commands.specs.Runs.{IsStreamed};
 ghost use Rattle.sq_commands.specs.Squitters.{check_columns, squitter_telling};
 ghost use Rattle.sq_commands.specs.SlowAnswers.{AreTrueAfter, AreTrueAnswers, heard_in, received_in};
-ghost use Rattle.sq_commands.specs.Summary.{stranger_text, summary_text};
+ghost use Rattle.sq_commands.specs.Summary.{are_all_damaged, stranger_text, summary_text};
 ghost use Rattle.sq_feed.specs.declared.message.Stranger.{Stranger};
-ghost use Rattle.sq_commands.specs.Track.{HasTracked, IsLogRun, IsTracked};
+ghost use Rattle.sq_commands.specs.Holding.{AreHeardLinesBy, OneListOfAnswers, SomeHolding};
+ghost use Rattle.sq_commands.specs.Track.{HasTracked, IsLogRun, IsTracked, IsTrackedBy};
 ghost use Rattle.sq_log.specs.declared.log.Answer.{Answer};
-ghost use Rattle.sq_commands.specs.Tracking.{OnePast, track_manner};
+ghost use Rattle.sq_commands.specs.Tracking.{OnePast, PastExactly, SomeTracking, track_manner};
 
 use crate::answers::HeardSquitter;
 use crate::status::Status;
@@ -69,12 +71,12 @@ pub fn one_argument_fault()
     ensures feed { OneFeedFault }
 {}
 
-/// A word names at most one format, and a number of the library too. A format of `feed` is `auto`, `beast`, `avr`,
-/// `csv` or `log`.
+/// A word names at most one format, and a number of the library too. A format is `lines`, `csv` or `json`, and one of
+/// `feed` is `auto`, `beast`, `avr`, `csv` or `log`.
 pub fn one_format()
     ensures one { (word : Option (List ℕ)) (a b : Format) → IsFormatWord word a → IsFormatWord word b → a ≡ b }
     ensures none { (word : Option (List ℕ)) → IsNoFormat word
-        ↔ (word ≢ None) × ((format : Format) → word ≢ Some (format_name format)) }
+        ↔ (word ≢ None) × (word ≢ Some (codes "lines")) × (word ≢ Some (codes "csv")) × (word ≢ Some (codes "json")) }
     ensures number { (number : ℕ) (a b : Format) → number ≡ format_number a → number ≡ format_number b → a ≡ b }
     ensures one_source { (word : Option (List ℕ)) (a b : Option SourceFormat) → IsSourceWord word a
         → IsSourceWord word b → a ≡ b }
@@ -142,6 +144,15 @@ pub fn equal_statuses(status: &Status, other: &Status) -> bool
     status == other
 }
 
+/// A tracker has a past for each history that it represents, and one for its contents. Its contents give one list of
+/// answers to lines.
+pub fn pasts_exactly()
+    ensures history { SomeTracking }
+    ensures holding { SomeHolding }
+    ensures past { PastExactly }
+    ensures one { OneListOfAnswers }
+{}
+
 /// The reply of `track` to a squitter follows from the tracker's settings and its history alone.
 pub fn one_past()
     ensures { OnePast }
@@ -171,7 +182,16 @@ pub fn tracked_exactly<S: Source, K: Sink>()
         × (IsPosition (squitter_parts timed.squitter).me
         × (find (λ entry. entry.0 == (squitter_parts timed.squitter).address) (present_of tracker) ≡ None))
         × ((h : History) → StandsFor tracker h
-        → IsAcceptable (settings tracker) h timed.moment timed.squitter))) }
+        → IsAcceptable (settings tracker) h timed.moment timed.squitter)
+        × IsWelcomeTo timed.moment timed.squitter tracker)) }
+    ensures entries { (format : Format) (result : Result Tally RunFault) (from to : S) (old new : K)
+        (first last : Held) → IsTrackedBy (heard_telling format) result (taken_from S.Source from to)
+        (written_on K.Sink old new) first last
+        ↔ (IsClosedBy result (written_on K.Sink old new) × ((lines : List (List ℕ))
+        × AreAnswered (WantsAt track_manner last) result (taken_from S.Source from to) lines
+        × ((reader : TimedReader) (writers : Writers) → (answers : List (Answered HeardSquitter))
+        × AreHeardLinesBy reader first lines answers last
+        × WroteAnswers result (written_on K.Sink old new) (told_by (heard_telling format) writers) answers))) }
 {}
 
 /// The reply of a run of `check` or of `track`. At the end of its input it is good exactly if no line was refused, with
@@ -230,24 +250,26 @@ pub fn broken_aside_exactly<S: Source, K: Sink, F: Sink>()
     ensures { BrokenAside S.Source K.Sink F.Sink }
 {}
 
-/// A run of `feed` is good only if all lines were written and the summary was reported. It is refused only if the input
-/// is no feed, which was reported. It never ends as misused. A broken run wrote the lines of all items that were read
-/// until a get failed, or a prefix of them.
+/// A run of `feed` is good only if all lines were written, not all items are damaged, and the summary was reported. It
+/// is refused only if the input is no feed, or all its items are damaged, which was reported. It never ends as misused.
+/// A broken run wrote the lines of all items that were read until a get failed, or a prefix of them.
 pub fn feed_ended_exactly<C: Clock, S: Source, K: Sink, F: Sink>()
     ensures good { (options : FeedOptions) (first last : C) (from to : S) (old new : K) (before after : F)
         → IsStreamed (IsFeedRunIn options (times_of C.Clock first last)) Good
         (effects S.Source from to (outputs K.Sink F.Sink old new before after))
         → (counts : Counts)
         × IsFed options (times_of C.Clock first last) (Ok (record { counts = counts; stranger = None }))
-        (taken_from S.Source from to) (written_on K.Sink old new)
+        (taken_from S.Source from to) (written_on K.Sink old new) × (are_all_damaged counts ≡ false)
         × WroteOrFailed (written_on F.Sink before after) (summary_text counts ++ codes "\n") }
     ensures refused { (options : FeedOptions) (first last : C) (from to : S) (old new : K) (before after : F)
         → IsStreamed (IsFeedRunIn options (times_of C.Clock first last)) Refused
         (effects S.Source from to (outputs K.Sink F.Sink old new before after))
-        → (counts : Counts) × (stranger : Stranger)
-        × IsFed options (times_of C.Clock first last) (Ok (record { counts = counts; stranger = Some stranger }))
+        → (counts : Counts) × (stranger : Option Stranger)
+        × IsFed options (times_of C.Clock first last) (Ok (record { counts = counts; stranger = stranger }))
         (taken_from S.Source from to) (written_on K.Sink old new)
-        × WroteOrFailed (written_on F.Sink before after) (stranger_text stranger ++ codes "\n") }
+        × MatchOption stranger ((are_all_damaged counts ≡ true)
+        × WroteOrFailed (written_on F.Sink before after) (summary_text counts ++ codes "\n"))
+        (λ one. WroteOrFailed (written_on F.Sink before after) (stranger_text one ++ codes "\n")) }
     ensures used { (options : FeedOptions) (first last : C) (from to : S) (old new : K) (before after : F)
         → ¬ IsStreamed (IsFeedRunIn options (times_of C.Clock first last)) Misused
         (effects S.Source from to (outputs K.Sink F.Sink old new before after)) }

@@ -39,6 +39,10 @@ pub struct FeedWords<'a> {
     pub format: Option<&'a str>,
     /// `--reorder`
     pub reorder: Option<&'a str>,
+    /// `--leap`
+    pub leap: Option<&'a str>,
+    /// whether there is `--arrival`
+    pub arrival: bool,
     /// whether there is `--all`
     pub all: bool,
 }
@@ -76,6 +80,6 @@ pub enum Request<'a> {
     Check { format: Option<&'a str> },
     /// `track [--format FORMAT] [--limit N] [--window MS] [--lat LAT] [--lon LON]`
     Track(TrackWords<'a>),
-    /// `feed [--format FORMAT] [--reorder MS] [--all]`
+    /// `feed [--format FORMAT] [--reorder MS] [--leap MS] [--arrival] [--all]`
     Feed(FeedWords<'a>),
 }

@@ -1,7 +1,7 @@
 //! The summary of a feed.
 ghost use Rattle.std.specs.Prelude.{◌≡◌, ◌+◌, ◌≤◌, ◌++◌, ℕ, List, codes, length, sum};
 ghost use Rattle.sq_digits.specs.Buffer.{text_len};
-ghost use Rattle.sq_commands.specs.Summary.{comma_of, format_text, format_texts, joined, other_formats};
+ghost use Rattle.sq_commands.specs.Summary.{advice, are_all_damaged, comma_of, counts_text, format_text, format_texts, joined, other_formats};
 ghost use Rattle.sq_commands.specs.Summary.{part, rest_of, stranger_text, summary_text};
 
 use sq_digits::{TextBuffer, push_decimal};
@@ -13,10 +13,41 @@ const FORMATS: usize = 25;
 // The summary of a feed has fewer bytes.
 pub(crate) type SummaryText = TextBuffer<2048>;
 
-// Returns the summary of a feed.
+// What to do if all items are damaged.
+const ADVICE: &str = ": try without --format; the times of a table are seconds";
+
+// Returns the summary of a feed: the counts, and what to do if all items are damaged.
 pub(crate) fn summary(counts: &Counts) -> SummaryText
     ensures bytes { result.bytes ≡ summary_text counts.now }
     ensures len { text_len result ≤ 2000 }
+{
+    let mut text = counts_text(counts);
+    push_advice(&mut text, counts);
+    text
+}
+
+// Returns whether there were items, and all of them are damaged.
+pub(crate) fn are_all_damaged(counts: &Counts) -> bool
+    ensures { result ≡ are_all_damaged counts.now }
+{
+    counts.found() != 0 && counts.damaged() == counts.found()
+}
+
+// Appends what to do if all items are damaged.
+fn push_advice(text: &mut SummaryText, counts: &Counts)
+    requires { text_len text.old ≤ 1900 }
+    ensures bytes { text.new.bytes ≡ text.old.bytes ++ advice counts.now }
+    ensures len { text_len text.new ≤ text_len text.old + 60 }
+{
+    if are_all_damaged(counts) {
+        text.push_str(ADVICE);
+    }
+}
+
+// Returns the counts of a feed.
+fn counts_text(counts: &Counts) -> SummaryText
+    ensures bytes { result.bytes ≡ counts_text counts.now }
+    ensures len { text_len result ≤ 1900 }
 {
     let mut text = SummaryText::new();
     push_decimal(&mut text, counts.written());
@@ -24,6 +55,7 @@ pub(crate) fn summary(counts: &Counts) -> SummaryText
     push_others(&mut text, counts);
     push_part(&mut text, counts.mode_ac(), " of Mode A/C");
     push_part(&mut text, counts.multilaterated(), " multilaterated");
+    push_part(&mut text, counts.receiver_ids(), " receiver ids");
     push_part(&mut text, counts.aside(), " set aside");
     push_part(&mut text, counts.damaged(), " damaged");
     text
@@ -108,7 +140,7 @@ fn push_comma(text: &mut SummaryText, is_first: bool)
 fn others_of(counts: &Counts) -> u64
     ensures { result ≡ sum counts.now.formats }
 {
-    let others = counts.found() - counts.written() - counts.mode_ac();
+    let others = counts.found() - counts.written() - counts.mode_ac() - counts.receiver_ids();
     others - counts.multilaterated() - counts.damaged() - counts.aside()
 }
 

@@ -9,8 +9,9 @@ ghost use Rattle.sq_commands.specs.Formats.{Writers};
 ghost use Rattle.sq_commands.specs.Heard.{heard_lines, heard_telling};
 ghost use Rattle.sq_commands.specs.Replies.{reply_parts};
 ghost use Rattle.sq_commands.specs.SlowAnswers.{AreTrueAnswers};
-ghost use Rattle.sq_commands.specs.Track.{HasTracked, IsLogRun, IsTrackRun, IsTracked, hearing_manner};
-ghost use Rattle.sq_commands.specs.Tracking.{IsTimedHeard, Tracking};
+ghost use Rattle.sq_commands.specs.Holding.{IsTimedHeardBy};
+ghost use Rattle.sq_commands.specs.Track.{HasTracked, IsLogRun, IsTrackRun, IsTracked, IsTrackedBy, hearing_manner};
+ghost use Rattle.sq_commands.specs.Tracking.{IsTimedHeard, Past};
 ghost use Rattle.sq_commands.specs.TrueAnswers.{true_answers};
 ghost use Rattle.sq_track.specs.Held.{settings};
 
@@ -37,7 +38,7 @@ pub struct Hearing<'a, F: AnswerFormat, A: Allocator = Global> {
 impl<F: AnswerFormat, A: Allocator> Job for Hearing<'_, F, A> {
     type Found = HeardSquitter;
 
-    ghost Past = { Tracking };
+    ghost Past = { Past };
 
     ghost Lasting = { GName };
 
@@ -110,6 +111,7 @@ pub fn hear_texts<A: Allocator>(hearer: &mut Tracker<A>) -> TextHearing<'_, A>
 #[inline(always)]
 fn hear<A: Allocator>(tracker: &mut Tracker<A>, timed: Received) -> Verdict<HeardSquitter>
     ensures heard { IsTimedHeard result timed tracker.old tracker.new }
+    ensures entries { IsTimedHeardBy result timed tracker.old tracker.new }
     ensures settings { settings tracker.new ≡ settings tracker.old }
 {
     match tracker.hear(timed.moment, &timed.squitter) {
@@ -135,6 +137,10 @@ pub fn run_track<S: Source, K: Sink>(
     ensures ran { IsTracked heard_lines result (taken_from S.Source source.old source.new)
         (written_on K.Sink sink.old sink.new) tracker.old tracker.new }
 
+    // Each answer also follows from what the tracker held before its line, whatever that was. This needs no history.
+    ensures entries { IsTrackedBy heard_lines result (taken_from S.Source source.old source.new)
+        (written_on K.Sink sink.old sink.new) tracker.old tracker.new }
+
     // If the source reports its bytes, the answers are those to all of them.
     ensures reported { IfOk result (λ tally. TookReported (taken_from S.Source source.old source.new)
         (λ read. HasTracked heard_lines tracker.old tracker.new result (written_on K.Sink sink.old sink.new)
@@ -151,6 +157,8 @@ fn run_track_as<S: Source, K: Sink, F: AnswerFormat>(
     tracker: &mut Tracker,
 ) -> Result<Tally, RunFault>
     ensures ran { IsTracked (heard_telling F.chosen) result (taken_from S.Source source.old source.new)
+        (written_on K.Sink sink.old sink.new) tracker.old tracker.new }
+    ensures entries { IsTrackedBy (heard_telling F.chosen) result (taken_from S.Source source.old source.new)
         (written_on K.Sink sink.old sink.new) tracker.old tracker.new }
     ensures reported { IfOk result (λ tally. TookReported (taken_from S.Source source.old source.new)
         (λ read. HasTracked (heard_telling F.chosen) tracker.old tracker.new result

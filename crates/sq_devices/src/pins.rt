@@ -11,7 +11,7 @@ ghost use Rattle.sq_devices.specs.Changes.{GotAtMost, GotUpToEnd, TookAll, TookN
 ghost use Rattle.sq_devices.specs.Changes.{TookSome};
 ghost use Rattle.sq_devices.specs.Changes.{WroteOrFailed, taken_from, written_on};
 ghost use Rattle.sq_devices.specs.Device.{AppendsOrHides, ConsumesOrHides, IsPrefixOf, KeepsOrHides, UsesGet};
-ghost use Rattle.sq_devices.specs.Device.{WroteFront};
+ghost use Rattle.sq_devices.specs.Device.{WroteFront, most_gets};
 ghost use Rattle.sq_devices.specs.Clocks.{recorded, times_of};
 ghost use Rattle.sq_devices.specs.declared.readers.Reading.{Reading};
 ghost use Rattle.sq_devices.specs.declared.writers.Writing.{Writing};
@@ -90,10 +90,11 @@ pub fn reported_bytes()
         ↔ ((count : ℕ) × (new ≡ old ++ take count text)) }
 {}
 
-/// A get that succeeds uses up one of the gets left, and a failed one uses up none.
+/// A get that succeeds uses up one of the gets left, and a failed one uses up none. A source has at most 10^12 gets.
 pub fn gets_are_used_up()
     ensures succeeded { (count old new : ℕ) → UsesGet {Error = ℕ} (Ok count) old new ↔ (new + 1 ≡ old) }
     ensures failed { (error old new : ℕ) → UsesGet {Value = ℕ} (Err error) old new ↔ (new ≡ old) }
+    ensures most { most_gets ≡ 1000000000000 }
 {}
 
 /// One get of a source over a reader takes the returned bytes from the front of the reader, if that reports its bytes.

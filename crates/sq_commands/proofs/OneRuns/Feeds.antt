@@ -20,9 +20,9 @@ use Rattle.sq_commands.specs.Requests.{AskedFeed}
 use Rattle.sq_commands.specs.declared.arguments.ArgumentFault.{ArgumentFault}
 use Rattle.sq_commands.specs.declared.status.Status.TheVariants.{Broken}
 use Rattle.sq_commands.specs.Faults.{IsMisuse}
-use Rattle.sq_commands.specs.Feed.{HasFedAll, IsFeedFault, IsFeedOptions, IsFeedRun, IsFeedRunIn, IsNoSource, IsReorder}
+use Rattle.sq_commands.specs.Feed.{HasFedAll, IsFeedFault, IsFeedOptions, IsFeedRun, IsFeedRunIn, IsMillis, IsNoSource}
 use Rattle.sq_commands.specs.Feed.{IsSourceWord, all_lines, all_squitters, arrivals_in, end_by, end_of, lines_whole}
-use Rattle.sq_commands.specs.Feed.{feed_reply, manner_of, squitters_in, start_of}
+use Rattle.sq_commands.specs.Feed.{feed_reply, manner_of, squitters_in, start_of, usual_leap}
 use Rattle.sq_commands.specs.declared.feed.FeedEnd.{FeedEnd}
 use Rattle.sq_commands.specs.declared.feed.FeedOptions.{FeedOptions}
 use Rattle.sq_commands.proofs.FaultLemmas.{one_feed_fault}
@@ -170,21 +170,30 @@ no_source word no_auto no_beast no_avr no_csv no_log format (inr (inr (inr (inr 
 
 -- ---- options
 
-one_reorder : (word : Option (List ℕ)) (a b : ℕ) → IsReorder word a → IsReorder word b → a ≡ b
-one_reorder None a b x y = x ∙ sym y
-one_reorder (Some word) a b x y = x.value ∙ sym y.value
+one_millis : (usual : ℕ) (word : Option (List ℕ)) (a b : ℕ) → IsMillis usual word a → IsMillis usual word b → a ≡ b
+one_millis usual None a b x y = x ∙ sym y
+one_millis usual (Some word) a b x y = x.value ∙ sym y.value
 
 one_options : (words : AskedFeed) (a b : FeedOptions) → IsFeedOptions words a → IsFeedOptions words b → a ≡ b
 one_options words a b x y =
     let format = one_source words.format a.format b.format x.format_is y.format_is in
-    let reorder = one_reorder words.reorder a.reorder b.reorder x.reorder_is y.reorder_is in
+    let reorder = one_millis 0 words.reorder a.reorder b.reorder x.reorder_is y.reorder_is in
+    let leap = one_millis usual_leap words.leap a.leap b.leap x.leap_is y.leap_is in
+    let arrival = x.arrival_is ∙ sym y.arrival_is in
     let all = x.all_is ∙ sym y.all_is in
-    λ i. record { format = format i; reorder = reorder i; all_formats = all i }
+    λ i. record {
+      format = format i;
+      reorder = reorder i;
+      leap = leap i;
+      ignores_clock = arrival i;
+      all_formats = all i;
+    }
 
 no_options : (words : AskedFeed) (options : FeedOptions) (fault : ArgumentFault) → IsFeedOptions words options
     → IsFeedFault words fault → ⊥
 no_options words options fault is (inl (own, none)) = none (options.format, is.format_is)
-no_options words options fault is (inr (good, (own, none))) = none options.reorder is.reorder_is
+no_options words options fault is (inr (good, inl (own, none))) = none (options.reorder, is.reorder_is)
+no_options words options fault is (inr (good, inr (good_too, (own, none)))) = none options.leap is.leap_is
 
 -- ---- runs
 

@@ -2,7 +2,7 @@ use Rattle.std.proofs.Common.{◌≢◌, ◌∙◌, ◌<◌, None, ap, arith, is
 use Rattle.sq_feed.specs.Feeds.{nothing_fed}
 use Rattle.sq_commands.specs.Feed.{manner_of}
 use Rattle.sq_commands.proofs.FeedRuns.{early_reported, ended, ended_early, ended_reported, ended_write}
-use Rattle.sq_commands.proofs.FeedRuns.{going_more, going_nothing}
+use Rattle.sq_commands.proofs.FeedRuns.{going_more, going_nothing, read_failed}
 use Rattle.sq_commands.proofs.feed.run_feed.Goals as goal
 
 pub loop-count-init : goal.loop-count-init
@@ -17,6 +17,13 @@ loop-count-init g c =
           (c.new-feed.ensures ∙ ap (nothing_fed c.args.options.now.format) (c.manner_of.ensures
           ∙ ap (manner_of c.args.options.now) live)) c.order_of-order.ensures;
     }
+
+pub returns-in_default-clause-ran : goal.returns-in_default-clause-ran
+returns-in_default-clause-ran g c =
+    let of = c.in_default.ensures in
+    read_failed c.args.options.now g.C.Clock g.S.Source g.K.Sink c.args.clock.now c.args.source.now c.args.sink.now
+    c.loop-count.clock c.loop-count.source c.loop-count.sink c.loop-count.feed
+    c.loop-count.order c.loop-count.invariant.going c.get.new.self (search rules) (search rules) (search rules)
 
 pub returns-then-count-eq0-clause-ran : goal.returns-then-count-eq0-clause-ran
 returns-then-count-eq0-clause-ran g c =

@@ -1,19 +1,17 @@
-use Rattle.std.proofs.Common.{◌≡◌, List, length}
-use Rattle.sq_devices.specs.Calls.{HasPut}
+use Rattle.std.proofs.Common.{◌≡◌, [], List, length}
 use Rattle.sq_feed.specs.declared.message.Timed.{Timed}
 use Rattle.sq_feed.specs.Feeds.{lines_of}
 use Rattle.sq_feed.specs.Orders.{HasFlushed}
+use Rattle.sq_commands.specs.Feed.{HasLined}
 use Rattle.sq_commands.proofs.feed_lines.put_held.Given as goal
 
--- the lines of the first squitters were put
-abbrev pub invariant-loop : goal.invariant-loop
-invariant-loop g l = record {
-  moments : length l.moments ≡ 64;
-  frames : length l.frames ≡ 64;
-  flushed : (given : List Timed) × HasFlushed l.initial.order given l.order
-      × HasPut g.K.Sink l.initial.sink l.sink (lines_of given);
+-- the lines of the first squitters were made
+abbrev pub invariant-loop-slot : goal.invariant-loop-slot
+invariant-loop-slot g l = record {
+  given : (given : List Timed) × HasFlushed l.initial.order given l.order
+      × HasLined g.K.Sink l.initial.sink l.sink [] l.text.bytes (lines_of given);
   unfinished : g.K.Sink.finishes l.sink ≡ g.K.Sink.finishes l.initial.sink;
 }
 
-abbrev pub decreases-loop : goal.decreases-loop
-decreases-loop g l = length l.order.held
+abbrev pub decreases-loop-slot : goal.decreases-loop-slot
+decreases-loop-slot g l = length l.order.held

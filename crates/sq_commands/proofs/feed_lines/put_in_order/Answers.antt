@@ -1,95 +1,58 @@
-use Rattle.std.proofs.Common.{◌∙◌, ◌++◌, arith, subst, sym, take}
+use Rattle.std.proofs.Common.{◌≡◌, ◌++◌, ◌∙◌, ap, append_assoc, subst, sym}
 use Rattle.std.proofs.lemmas.Result.{err_from_is_err_and}
-use Rattle.sq_devices.specs.Calls.{HasPut}
-use Rattle.sq_devices.proofs.Puts.{HasPut-trans}
+use Rattle.sq_devices.specs.Device.{WroteFront}
 use Rattle.sq_feed.specs.Feeds.{lines_of}
-use Rattle.sq_feed.specs.Orders.{squitters_of}
+use Rattle.sq_feed.specs.Orders.{given_now, settled, with_one}
 use Rattle.sq_feed.proofs.Feeding.{lines_of-append}
-use Rattle.sq_commands.proofs.Feeding.{wrote_after}
-use Rattle.sq_commands.proofs.Sortings.{front_long, part_front, part_smaller, part_sorted, part_within, whole_given}
-use Rattle.sq_commands.proofs.Sortings.{whole_state}
+use Rattle.sq_commands.specs.Feed.{HasLined}
+use Rattle.sq_commands.proofs.Sortings.{lined_more, lined_part, on_err, on_ok, wrote_front_more}
 use Rattle.sq_commands.proofs.feed_lines.put_in_order.Goals as goal
 
--- a prefix of the lines was put
-pub returns-in_err-put_lines-clause-part : goal.returns-in_err-put_lines-clause-part
-returns-in_err-put_lines-clause-part g c =
-    let i = c.loop.invariant in
-    let (given, sorts, put) = i.sorted in
-    let due = squitters_of (take c.take-taken.result.1 c.take-taken.new.out_moments)
-    (take c.take-taken.result.1 c.take-taken.new.out_frames) in
+-- a prefix of the lines that were due before was put
+pub returns-in_err-put_due-clause-part : goal.returns-in_err-put_due-clause-part
+returns-in_err-put_due-clause-part g c =
     let k = g.K.Sink in
+    let before = k.written c.args.sink.now in
+    let after = k.written c.put_due.new.sink in
+    let text = c.args.text.now.bytes in
+    let due = given_now 4096 c.args.order.now in
+    let next = given_now 4096 (with_one c.args.one.now (settled 4096 c.args.order.now)) in
     let p = err_from_is_err_and c.from_residual.result c.from_residual.ensures.1 in
-    rw (p.1) (part_front c.args.order.now c.loop.order c.take-taken.new.self c.args.moments.now c.args.frames.now
-    c.loop.at c.take-taken.result.0 given due c.requires i.within c.take-taken.ensures.fits.0 sorts
-    c.take-taken.ensures.given
-    (k.written c.args.sink.now) (k.written c.put_lines.new.sink)
-    (wrote_after (k.written c.args.sink.now) (k.written c.loop.sink) (k.written c.put_lines.new.sink) (lines_of given)
-    (lines_of due) put.0 c.in_err-put_lines.ensures.part))
+    rw (p.1) (subst (WroteFront before after)
+    (append_assoc text (lines_of due) (lines_of next) ∙ ap (λ x. text ++ x) (sym (lines_of-append due next)))
+    (wrote_front_more before after (text ++ lines_of due) (lines_of next) c.in_err-put_due.ensures.part))
 
--- all came, and none is due
-pub returns-then-due-lt-BATCH-clause-sorted : goal.returns-then-due-lt-BATCH-clause-sorted
-returns-then-due-lt-BATCH-clause-sorted g c =
-    let i = c.loop.invariant in
-    let (given, sorts, put) = i.sorted in
-    let due = squitters_of (take c.take-taken.result.1 c.take-taken.new.out_moments)
-    (take c.take-taken.result.1 c.take-taken.new.out_frames) in
-    let (all, none) = c.take-taken.ensures.all (omega (arith, c.if-due-lt-BATCH.true, i.moments))
-    (omega (arith, c.if-due-lt-BATCH.true, i.frames)) in
-    whole_state c.args.order.now c.loop.order c.take-taken.new.self c.args.moments.now c.args.frames.now c.loop.at
-    c.take-taken.result.0 given due c.requires i.within c.take-taken.ensures.fits.0 sorts c.take-taken.ensures.given
-    all none
-
-pub returns-then-due-lt-BATCH-clause-put : goal.returns-then-due-lt-BATCH-clause-put
-returns-then-due-lt-BATCH-clause-put g c =
-    let i = c.loop.invariant in
-    let (given, sorts, put) = i.sorted in
-    let due = squitters_of (take c.take-taken.result.1 c.take-taken.new.out_moments)
-    (take c.take-taken.result.1 c.take-taken.new.out_frames) in
-    let (all, none) = c.take-taken.ensures.all (omega (arith, c.if-due-lt-BATCH.true, i.moments))
-    (omega (arith, c.if-due-lt-BATCH.true, i.frames)) in
+pub returns-clause-put : goal.returns-clause-put
+returns-clause-put g c =
     let k = g.K.Sink in
-    subst (HasPut k c.args.sink.now c.put_lines.new.sink)
-    (whole_given c.args.order.now c.loop.order c.take-taken.new.self c.args.moments.now c.args.frames.now c.loop.at
-    c.take-taken.result.0 given due c.requires i.within c.take-taken.ensures.fits.0 sorts c.take-taken.ensures.given
-    all none)
-    (HasPut-trans k c.args.sink.now c.loop.sink c.put_lines.new.sink (lines_of given) (lines_of due) put
-    c.in_ok-put_lines.ensures.put)
+    let one = c.put_due.new in
+    let two = c.put_due-2.new in
+    let text = c.args.text.now.bytes in
+    let due = given_now 4096 c.args.order.now in
+    let state = with_one c.args.one.now (settled 4096 c.args.order.now) in
+    let same : c.put.new.self ≡ state = c.put.ensures ∙ ap (with_one c.args.one.now) c.in_ok-put_due.ensures.sorted in
+    on_ok c.put_due-2.result
+    (λ put. subst (HasLined k c.args.sink.now two.sink text two.text.bytes)
+    (sym (lines_of-append due (given_now 4096 state)))
+    (lined_more k c.args.sink.now one.sink two.sink text one.text.bytes two.text.bytes (lines_of due)
+    (lines_of (given_now 4096 state)) c.in_ok-put_due.ensures.put
+    (subst (λ s. HasLined k one.sink two.sink one.text.bytes two.text.bytes (lines_of (given_now 4096 s))) same put)))
+    c.put_due-2.ensures.put
 
--- more may be due
-pub loop-smaller : goal.loop-smaller
-loop-smaller g c =
-    let i = c.loop.invariant in
-    let (given, sorts, put) = i.sorted in
-    let due = squitters_of (take c.take-taken.result.1 c.take-taken.new.out_moments)
-    (take c.take-taken.result.1 c.take-taken.new.out_frames) in
-    let long = front_long c.take-taken.new.out_moments c.take-taken.new.out_frames c.take-taken.result.1
-    (omega (arith, c.take-taken.ensures.few.0, c.take-taken.ensures.long.0))
-    (omega (arith, c.take-taken.ensures.few.1, c.take-taken.ensures.long.1)) in
-    part_smaller c.args.order.now c.loop.order c.take-taken.new.self c.args.moments.now c.args.frames.now c.loop.at
-    c.take-taken.result.0 given due c.requires i.within c.take-taken.ensures.fits.0 sorts c.take-taken.ensures.given
-    (omega (arith, long, c.if-due-lt-BATCH.false))
-
-pub loop-preserved : goal.loop-preserved
-loop-preserved g c =
-    let i = c.loop.invariant in
-    let (given, sorts, put) = i.sorted in
-    let due = squitters_of (take c.take-taken.result.1 c.take-taken.new.out_moments)
-    (take c.take-taken.result.1 c.take-taken.new.out_frames) in
+-- a prefix of all lines was put
+pub returns-clause-part : goal.returns-clause-part
+returns-clause-part g c =
     let k = g.K.Sink in
-    record {
-      within = part_within c.args.order.now c.loop.order c.take-taken.new.self c.args.moments.now c.args.frames.now
-          c.loop.at c.take-taken.result.0 given due c.requires i.within c.take-taken.ensures.fits.0 sorts
-          c.take-taken.ensures.given;
-      moments = c.take-taken.ensures.long.0 ∙ i.moments;
-      frames = c.take-taken.ensures.long.1 ∙ i.frames;
-      sorted = (
-        given ++ due,
-        part_sorted c.args.order.now c.loop.order c.take-taken.new.self c.args.moments.now c.args.frames.now c.loop.at
-            c.take-taken.result.0 given due c.requires i.within c.take-taken.ensures.fits.0 sorts
-            c.take-taken.ensures.given,
-        subst (HasPut k c.args.sink.now c.put_lines.new.sink) (sym (lines_of-append given due))
-            (HasPut-trans k c.args.sink.now c.loop.sink c.put_lines.new.sink (lines_of given) (lines_of due) put
-            c.in_ok-put_lines.ensures.put),
-      );
-      unfinished = c.put_lines.ensures.unfinished ∙ i.unfinished;
-    }
+    let one = c.put_due.new in
+    let after = k.written c.put_due-2.new.sink in
+    let text = c.args.text.now.bytes in
+    let due = given_now 4096 c.args.order.now in
+    let state = with_one c.args.one.now (settled 4096 c.args.order.now) in
+    let same : c.put.new.self ≡ state = c.put.ensures ∙ ap (with_one c.args.one.now) c.in_ok-put_due.ensures.sorted in
+    on_err c.put_due-2.result
+    (λ part. subst (λ x. WroteFront (k.written c.args.sink.now) after (text ++ x))
+    (sym (lines_of-append due (given_now 4096 state)))
+    (lined_part k c.args.sink.now one.sink after text one.text.bytes (lines_of due) (lines_of (given_now 4096 state))
+    c.in_ok-put_due.ensures.put
+    (subst (λ s. WroteFront (k.written one.sink) after (one.text.bytes ++ lines_of (given_now 4096 s))) same part)))
+    c.put_due-2.ensures.part

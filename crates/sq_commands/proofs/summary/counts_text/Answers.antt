@@ -1,11 +1,11 @@
 use Rattle.std.proofs.Common.{◌∙◌, ◌++◌, ap, ap₂, ℕ, List}
 use Rattle.std.specs.Prelude.{codes, decimal}
-use Rattle.sq_commands.specs.Summary.{other_formats, part, summary_text}
-use Rattle.sq_commands.proofs.Summaries.{seven_texts}
-use Rattle.sq_commands.proofs.summary.summary.Goals as goal
+use Rattle.sq_commands.specs.Summary.{other_formats, part, counts_text}
+use Rattle.sq_commands.proofs.Summaries.{eight_texts}
+use Rattle.sq_commands.proofs.summary.counts_text.Goals as goal
 
 pub returns-clause-bytes : goal.returns-clause-bytes
-unfolding summary_text
+unfolding counts_text
 returns-clause-bytes c =
     let tally = c.args.counts.now in
     let more : List ℕ → List ℕ → ℕ → List ℕ = λ name front count. front ++ part count name in
@@ -15,8 +15,10 @@ returns-clause-bytes c =
     let three = c.push_others.ensures.bytes ∙ ap (λ l. l ++ other_formats tally.formats) two in
     let four = c.push_part.ensures.bytes ∙ ap₂ (more (codes " of Mode A/C")) three c.mode_ac.ensures in
     let five = c.push_part-2.ensures.bytes ∙ ap₂ (more (codes " multilaterated")) four c.multilaterated.ensures in
-    let six = c.push_part-3.ensures.bytes ∙ ap₂ (more (codes " set aside")) five c.aside.ensures in
-    let seven = c.push_part-4.ensures.bytes ∙ ap₂ (more (codes " damaged")) six c.damaged.ensures in
-    seven ∙ seven_texts (decimal tally.written) (codes " written") (other_formats tally.formats)
+    let six = c.push_part-3.ensures.bytes ∙ ap₂ (more (codes " receiver ids")) five c.receiver_ids.ensures in
+    let seven = c.push_part-4.ensures.bytes ∙ ap₂ (more (codes " set aside")) six c.aside.ensures in
+    let eight = c.push_part-5.ensures.bytes ∙ ap₂ (more (codes " damaged")) seven c.damaged.ensures in
+    eight ∙ eight_texts (decimal tally.written) (codes " written") (other_formats tally.formats)
     (part tally.mode_ac (codes " of Mode A/C")) (part tally.multilaterated (codes " multilaterated"))
-    (part tally.aside (codes " set aside")) (part tally.damaged (codes " damaged"))
+    (part tally.receiver_ids (codes " receiver ids")) (part tally.aside (codes " set aside"))
+    (part tally.damaged (codes " damaged"))
