@@ -322,16 +322,24 @@ squitter-serves = (
             (
               serve _ (
                 inl (refl, refl, refl),
-                (inl (refl, refl, refl), (inr (inr (refl, omega arith)), (inr (inl refl), tt))),
+                (
+                  inl (refl, refl, refl),
+                  (
+                    inl (refl, refl, refl),
+                    (inr (inr (refl, omega arith)), (inr (inr (refl, omega arith)), (inr (inl refl), tt))),
+                  ),
+                ),
               )
                   (λ rows g. (
                     Feed (record {
                       format = first_of (codes "format") rows;
                       reorder = first_of (codes "reorder") rows;
+                      leap = first_of (codes "leap") rows;
+                      arrival = is_set (first_of (codes "arrival") rows);
                       all = is_set (first_of (codes "all") rows);
                     }),
                     refl,
-                    (refl, refl, refl),
+                    (refl, refl, refl, refl, refl),
                   )),
               (λ name words answers quiet none. absurd (help_is_quiet name answers quiet), tt),
             ),

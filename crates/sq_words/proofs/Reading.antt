@@ -1,30 +1,19 @@
 -- From clap's contracts about the words to what the words ask for.
-use Rattle.std.proofs.Common.{◌≡◌, ◌≢◌, ◌∙◌, true, List, [], Option, None, Some, ap, sym, subst}
-use Rattle.std.proofs.Common.{refl, ap₂, inl, inr}
+use Rattle.std.proofs.Common.{◌≡◌, ◌≢◌, ◌∙◌, ◌&&◌, Bool, true, false, List, [], Option, None, Some, ap, sym, subst}
+use Rattle.std.proofs.Common.{refl, ap₂, inl, inr, is_some}
 use Rattle.std.specs.Prelude.{option_map, unwrap_or}
-use Rattle.clap.specs.Words.{Text, Row, App, HasMatchesOf, HasKind, Kinds, is_simple, is_simple_and_free, subcommand_of}
-use Rattle.clap.specs.Words.{fault_of, first_of, first_value, kind_of, rows_of, subcommand_rows_of, subcommand_name_of}
+use Rattle.clap.specs.Words.{Text, Row, App, HasMatchesOf, HasKind, Kinds, is_simple_and_free, subcommand_of}
+use Rattle.clap.specs.Words.{fault_of, has_subcommand, first_of, first_value, kind_of, rows_of, subcommand_rows_of, subcommand_name_of}
 use Rattle.clap.specs.declared.error.Error.{Error}
 use Rattle.clap.specs.declared.error.kind.ErrorKind.TheVariants as kind
 use Rattle.clap.specs.declared.parser.ArgMatches.{ArgMatches}
 use Rattle.clap.specs.declared.parser.ArgMatches.TheViews.{out-ArgMatches}
 use Rattle.clap.specs.declared.parser.matches.Found.{Found}
 use Rattle.clap.proofs.WalkLemmas.{first_value-rows}
-use Rattle.clap.proofs.OnLiterals.{clap_on_literals}
 use Rattle.sq_words.specs.CommandLine.{squitter}
 use Rattle.sq_commands.specs.Requests.{Asked, command_name}
 use Rattle.sq_words.specs.CommandLine.{HasValues}
-use Rattle.sq_words.specs.Requests.{Asks, IsAsked}
-
--- clap's contracts say how this command line is read
-pub squitter-is_simple : is_simple squitter ≡ true
-unfolding clap_on_literals
-squitter-is_simple = refl
-
--- clap's contracts say which words of this command line are refused
-pub squitter-is_free : is_simple_and_free squitter ≡ true
-unfolding clap_on_literals
-squitter-is_free = refl
+use Rattle.sq_words.specs.Requests.{Asks, IsAsked, ReadsAlike}
 
 -- ---- clap's results
 
@@ -62,6 +51,10 @@ asks_none words name rows clap none asked asks =
       values = subst (λ (r : List Row). HasValues r asked) (sym (ap (λ (p : Text × List Row). p.1) one)) asks.values;
     })
 
+both : (a b : Bool) → (a && b) ≡ true → a ≡ true
+both true b is = refl
+both false b is = let bad : ⊥ = cc in absurd bad
+
 pair_of : {B : Type 0} (f : B → Text × List Row) (o : Option B) (name : Text) (rows : List Row)
     → Some name ≡ option_map (λ b. (f b).0) o → Some rows ≡ option_map (λ p. p.1) (option_map f o)
     → option_map f o ≡ Some (name, rows)
@@ -73,23 +66,35 @@ pair_of f (Some b) name rows named has =
     ap Some (sym (ap₂ pair at_name at_rows))
 
 -- clap's matches, as a statement about the words
-pub accepted_by : (app : App) (words : List Text) (m : ArgMatches) (name : Text) (rows : List Row) → app ≡ squitter
+pub accepted_by : (app : App) (words : List Text) (m : ArgMatches) (name : Text) (rows : List Row)
+    → ReadsAlike app words
     → (is_simple_and_free app ≡ true → fault_of app words ≡ []) → HasMatchesOf app words m
     → Some name ≡ subcommand_name_of m → Some rows ≡ option_map (λ p. p.1) (subcommand_rows_of m)
     → Accepted words name rows
-accepted_by app words m name rows is kinds matches named has = record {
-  accepted = subst (λ (a : App). fault_of a words ≡ []) is (kinds (ap is_simple_and_free is ∙ squitter-is_free));
-  entered = ap (λ (a : App). subcommand_of a words) (sym is) ∙ sym (matches (ap is_simple is ∙ squitter-is_simple)).1
+accepted_by app words m name rows alike kinds matches named has = record {
+  accepted = sym alike.faults ∙ kinds alike.simple;
+  entered = sym alike.enters ∙ sym (matches (both _ _ alike.simple)).1
       ∙ pair_of _ (out-ArgMatches m).subcommand name rows named has;
 }
 
+-- clap enters a command for words that ask for one
+pub no_command : (app : App) (words : List Text) (m : ArgMatches) (asked : Asked) → ReadsAlike app words
+    → HasMatchesOf app words m → Asks words asked → false ≡ has_subcommand m → ⊥
+no_command app words m asked alike matches asks none =
+    by _ (out-ArgMatches m).subcommand (command_name asked, asks.rows) none
+    ((matches (both _ _ alike.simple)).1 ∙ alike.enters ∙ asks.entered)
+  where
+    by : {B : Type 0} (f : B → Text × List Row) (o : Option B) (one : Text × List Row) → false ≡ is_some o
+        → option_map f o ≡ Some one → ⊥
+    by f None one none some = let bad : ⊥ = cc in bad
+    by f (Some b) one none some = let bad : ⊥ = cc in bad
+
 -- an error other than out of memory occurs only if clap finds an error in the words
-pub refused_by : (app : App) (words : List Text) (e : Error) → app ≡ squitter
+pub refused_by : (app : App) (words : List Text) (e : Error) → ReadsAlike app words
     → (is_simple_and_free app ≡ true → HasKind (fault_of app words) e) → kind_of e ≢ kind.OutOfMemory
     → fault_of squitter words ≢ []
-refused_by app words e is fails other_kind none =
-    let has : HasKind (fault_of app words) e = fails (ap is_simple_and_free is ∙ squitter-is_free) in
-    other_kind (fails_by_memory _ e (ap (λ (a : App). fault_of a words) is ∙ none) has)
+refused_by app words e alike fails other_kind none =
+    other_kind (fails_by_memory _ e (alike.faults ∙ none) (fails alike.simple))
 
 -- ---- one value
 

@@ -59,15 +59,19 @@ track = with_rule (with_rule (with_rule (with_rule (with_rule (new_app (codes "t
     (option (codes "limit"))) (option (codes "window")))
     (option (codes "lat"))) (option (codes "lon"))
 
--- feed [--format FORMAT] [--reorder MS] [--all]
+-- feed [--format FORMAT] [--reorder MS] [--leap MS] [--arrival] [--all]
 abbrev pub feed : App
-feed = with_rule (with_rule (with_rule (new_app (codes "feed")) (option (codes "format"))) (option (codes "reorder")))
-    (flag (codes "all"))
+feed = with_rule (with_rule (with_rule (with_rule (with_rule (new_app (codes "feed")) (option (codes "format")))
+    (option (codes "reorder"))) (option (codes "leap"))) (flag (codes "arrival"))) (flag (codes "all"))
 
 -- the program before any command is added; it requires a command, and has a version for `--version`
 abbrev pub program : App
 program = let named = new_app (codes "squitter") in
     record named { top = record named.top { has_version = true; subcommand_required = true } }
+
+-- the program with one command
+abbrev pub only : App → App
+only command = with_subcommand program command.top
 
 -- the program with its commands on one frame
 abbrev pub frame_commands : App
@@ -107,4 +111,5 @@ HasValues rows (Track words) =
     × (first_of (codes "lon") rows ≡ words.lon)
 HasValues rows (Feed words) =
     (first_of (codes "format") rows ≡ words.format) × (first_of (codes "reorder") rows ≡ words.reorder)
+    × (first_of (codes "leap") rows ≡ words.leap) × (is_given (first_of (codes "arrival") rows) ≡ words.arrival)
     × (is_given (first_of (codes "all") rows) ≡ words.all)

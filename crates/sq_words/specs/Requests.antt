@@ -1,6 +1,6 @@
 -- What the words of a command line ask for.
-use Rattle.std.specs.Prelude.{◌≡◌, ◌≢◌, List, [], Some}
-use Rattle.clap.specs.Words.{Text, Row, fault_of, subcommand_of}
+use Rattle.std.specs.Prelude.{◌≡◌, ◌≢◌, List, [], Some, true}
+use Rattle.clap.specs.Words.{App, Text, Row, fault_of, is_simple_and_free, subcommand_of}
 use Rattle.sq_commands.specs.Requests.{Asked, command_name}
 use Rattle.sq_words.specs.CommandLine.{HasValues, squitter}
 
@@ -15,6 +15,13 @@ pub record Asks (words : List Text) (asked : Asked) : Type 0 where
   pub rows : List Row
   pub entered : subcommand_of squitter words ≡ Some (command_name asked, rows)
   pub values : HasValues rows asked
+
+-- A command line reads words as the whole program does: clap finds the same errors in them, and enters the same command
+-- with the same values.
+pub record ReadsAlike (app : App) (words : List Text) : Type 0 where
+  pub simple : is_simple_and_free app ≡ true
+  pub faults : fault_of app words ≡ fault_of squitter words
+  pub enters : subcommand_of app words ≡ subcommand_of squitter words
 
 -- clap finds an error in the words, or they ask for its help
 abbrev pub IsFaulty : List Text → Type 0

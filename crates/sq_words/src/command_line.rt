@@ -1,21 +1,49 @@
 //! The command line: for each command, its help, its arguments and options as calls of clap, and the request for its
 //! values. clap puts the usage and the list of options between the texts of a command.
-ghost use Rattle.std.specs.Prelude.{◌≡◌, IfNone, IfOk, IfSome, codes, false, option_copied};
+ghost use Rattle.std.specs.Prelude.{◌≡◌, IfNone, IfOk, IfSome, codes, false, map, option_copied};
 ghost use Rattle.clap.specs.Words.{app_of, first_of, found_of, new_app, new_rule, rows_of, rule_of};
 ghost use Rattle.clap.specs.declared.builder.Command.TheViews.{out-Command as fields_of};
 ghost use Rattle.sq_commands.specs.Requests.{Asked, asked_by};
 ghost use Rattle.sq_words.specs.CommandLine.{check as check_line, encode, encode_head as encode_first, feed};
 ghost use Rattle.sq_words.specs.CommandLine.{frame_commands as frame_program, line_commands as line_program, local};
 ghost use Rattle.sq_words.specs.CommandLine.{flag as flag_rule, is_given as is_given_as, option as option_rule, pair};
-ghost use Rattle.sq_words.specs.CommandLine.{program as no_commands, required, show, squitter, track};
-ghost use Rattle.sq_words.specs.Requests.{IsAsked};
+ghost use Rattle.sq_words.specs.CommandLine.{only as only_one, program as no_commands, required, show, squitter, track};
+ghost use Rattle.sq_words.specs.Requests.{IsAsked, ReadsAlike};
 
 use clap::{Arg, ArgAction, ArgMatches, Command};
 use sq_commands::{EncodeWords, FeedWords, ReplyRequest, Request, TrackWords};
 use std::alloc::{AllocError, Global};
 
-/// Returns the command line of the program.
-pub(crate) fn squitter_command<'a>(alloc: Global) -> Result<Command<'a>, AllocError>
+/// Returns a command line that reads these words as the whole program reads them. If the word after the program's name
+/// names a command, it has that command alone, so that a run does not pay for the others.
+pub(crate) fn command_line_of<'a>(alloc: Global, words: &[&str]) -> Result<Command<'a>, AllocError>
+    ensures { IfOk result (λ c. ReadsAlike (app_of c) (map (λ word. word.now) words.entry.now)) }
+{
+    let Some(name) = words.get(1) else {
+        return squitter_command(alloc);
+    };
+    match *name {
+        "show" => only(alloc, show_command(alloc)?),
+        "encode" => only(alloc, encode_command(alloc)?),
+        "local" => only(alloc, local_command(alloc)?),
+        "pair" => only(alloc, pair_command(alloc)?),
+        "check" => only(alloc, check_command(alloc)?),
+        "track" => only(alloc, track_command(alloc)?),
+        "feed" => only(alloc, feed_command(alloc)?),
+        _ => squitter_command(alloc),
+    }
+}
+
+// Returns the program with one command.
+fn only<'a>(alloc: Global, command: Command<'a>) -> Result<Command<'a>, AllocError>
+    requires own { (fields_of command).has_globals ≡ false }
+    ensures { IfOk result (λ c. app_of c ≡ only_one (app_of command.entry)) }
+{
+    program(alloc).subcommand(command)
+}
+
+// Returns the command line of the whole program.
+fn squitter_command<'a>(alloc: Global) -> Result<Command<'a>, AllocError>
     ensures { IfOk result (λ c. app_of c ≡ squitter) }
 {
     line_commands(alloc)?
@@ -326,7 +354,8 @@ fn track_request<'a>(values: &ArgMatches<'a>) -> Request<'a>
 
 const FEED: CommandHelp = CommandHelp {
     about: "Reads a receiver's bytes from standard input, and prints a log for 'squitter track'",
-    usage: "squitter feed [--format=<auto|beast|avr|csv|log>] [--reorder=<MS>] [--all] < BYTES
+    usage: "squitter feed [--format=<auto|beast|avr|csv|log>] [--reorder=<MS>] [--leap=<MS>] [--arrival]
+                     [--all] < BYTES
        it waits for standard input; 'nc' or 'squitter-feed' reads a receiver's port",
     after: "Prints 'MILLISECONDS FRAME' for each extended squitter (DF17). The time comes from the receiver's
 clock (Beast, AVR with a clock), from the row or line (CSV, log), or on a pipe from the arrival.
@@ -336,11 +365,13 @@ The input is one of these; without --format, its first bytes show which one:
   csv     rows of time (s), icao24, rawmsg; a first row may name the columns in another order
   log     lines that 'squitter track' reads
 If its bytes show none of them, as those of SBS text or a compressed file, an error says what it is,
-and the status is 1. Otherwise standard error has the counts of frames at the end, without those of 0:
+and the status is 1. Otherwise standard error has the counts of frames at the end, without those of 0;
+the status is 1 if all of the input is damaged:
   N written                    lines that were printed
-  N of other downlink formats  messages but DF17, and how many there are of each format
+  N of other downlink formats  messages of other formats than DF17, and how many there are of each
   N of Mode A/C                replies to Mode A and Mode C
   N multilaterated             frames with a position that a server computed
+  N receiver ids               ids that readsb sends before its messages
   N set aside                  frames with a time that jumps
   N damaged                    bytes that are no message, or messages of a wrong length
 If the output is closed, as 'head' does, 'write failed' is reported and the status is 3.
@@ -358,6 +389,8 @@ fn feed_command<'a>(alloc: Global) -> Result<Command<'a>, AllocError>
     command(alloc, "feed", FEED)
         .arg(option(alloc, "format", "FORMAT", SOURCE))?
         .arg(option(alloc, "reorder", "MS", REORDER))?
+        .arg(option(alloc, "leap", "MS", LEAP))?
+        .arg(flag(alloc, "arrival", ARRIVAL))?
         .arg(flag(alloc, "all", ALL))
 }
 
@@ -367,6 +400,8 @@ fn feed_request<'a>(values: &ArgMatches<'a>) -> Request<'a>
     Request::Feed(FeedWords {
         format: value_of(values, "format"),
         reorder: value_of(values, "reorder"),
+        leap: value_of(values, "leap"),
+        arrival: is_given(value_of(values, "arrival")),
         all: is_given(value_of(values, "all")),
     })
 }
@@ -425,6 +460,13 @@ const SOURCE: &str = "The input format: auto, beast, avr, csv, or log [default: 
 
 const REORDER: &str = "Sort the lines by time, where frames come up to MS milliseconds late
 [default: 0, as they come]";
+
+const LEAP: &str = "Set frames aside after a jump of the clock by more than MS milliseconds,
+until three in a row agree [default: 600000]";
+
+const ARRIVAL: &str =
+    "Ignore the receiver's clock: frames get the times of their arrival. For a server
+that mixes receivers, and for a clock that does not run at 12 MHz";
 
 const ALL: &str = "Print frames of all downlink formats, not only extended squitters";
 

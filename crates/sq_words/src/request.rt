@@ -4,7 +4,7 @@ ghost use Rattle.clap.specs.Words.{kind_of};
 ghost use Rattle.sq_commands.specs.Requests.{asked_by};
 ghost use Rattle.sq_words.specs.Requests.{Asks, IsFaulty};
 
-use crate::command_line::{request_of, squitter_command};
+use crate::command_line::{command_line_of, request_of};
 use clap::error::ErrorKind;
 use sq_commands::{Request, RunFault};
 use std::alloc::{AllocError, Global};
@@ -40,7 +40,7 @@ pub fn read_request<'a>(alloc: Global, words: &'a [&'a str]) -> Result<Request<'
     ensures refused { IfErr result (λ refusal. (text : _) → refusal ≡ Refusal.Words text
         → IsFaulty (map (λ word. word.now) words.entry.now)) }
 {
-    let command = squitter_command(alloc)?;
+    let command = command_line_of(alloc, words)?;
     let matches = match command.try_get_matches_from(words) {
         Ok(matches) => matches,
         Err(error) => return Err(refusal_of(alloc, &error)),
