@@ -19,8 +19,10 @@ pub mod OneAgain
 pub mod AtPlaces
 pub mod OneTexts
 pub mod OneTrackers
+pub mod EntryAnswers
 pub mod LogSteps
 pub mod LogGoing
 pub mod LogAll
+pub mod Columns
 pub mod FeedSteps
 pub mod OrderSteps

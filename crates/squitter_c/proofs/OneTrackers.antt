@@ -68,7 +68,7 @@ one_made_at limit window plain x y f g (inr (p, p_is, h)) (inr (q, q_is, k)) had
 -- ---- results
 
 -- a reply that is reported with another fault than `no_memory` is not `Memory`
-had_memory : (reply : Result Heard TrackFault) (old new : PlainHeard) (fault : Fault)
+pub had_memory : (reply : Result Heard TrackFault) (old new : PlainHeard) (fault : Fault)
     → Tells IsPlainHeard of_tracker reply old new fault → fault ≢ no_memory → reply ≢ Err Memory
 had_memory reply old new fault told had is =
     had ((subst (λ r. Tells IsPlainHeard of_tracker r old new fault) is told).1)

@@ -2,7 +2,8 @@
 use Rattle.std.proofs.Common.{◌≡◌, ◌⊎◌, ◌++◌, ◌∙◌, ℕ, List, ap, ap₂, append-nil, arith, inl, inr, length, subst, sym, take}
 use Rattle.std.proofs.lemmas.List.{take_all}
 use Rattle.sq_feed.specs.declared.message.Timed.{Timed}
-use Rattle.sq_feed.specs.Orders.{HasSorted, squitters_of}
+use Rattle.sq_feed.specs.Orders.{HasSorted}
+use Rattle.squitter_c.specs.FeedCalls.{squitters_of}
 use Rattle.squitter_c.specs.OrderLaws.{AllFlushed, AllSorted}
 
 -- all elements of two arrays of equal length were taken

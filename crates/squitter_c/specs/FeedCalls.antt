@@ -1,12 +1,13 @@
 -- Calls of a feed.
-use Rattle.std.specs.Prelude.{◌≡◌, ◌==◌, ◌≤◌, ◌<◌, ◌+◌, ◌*◌, ◌/◌, ◌%◌, ◌⊎◌, ℕ, List, [], Option, None, Some, drop, length, take}
+use Rattle.std.specs.Prelude.{◌≡◌, ◌==◌, ◌≤◌, ◌<◌, ◌+◌, ◌/◌, ◌%◌, ◌⊎◌, ℕ, List, [], ◌∷◌, Option, None, Some, drop, length, take}
 use Rattle.sq_feed.specs.declared.machine.Format.{Format}
 use Rattle.sq_feed.specs.declared.machine.Format.TheVariants as formats
 use Rattle.sq_feed.specs.declared.manner.Manner.{Manner}
 use Rattle.sq_feed.specs.Counts.{Tally}
-use Rattle.sq_feed.specs.Feeds.{Feeding, HasClosedFeed, HasGiven, HasLost, HasWritten, format_of_source, nothing_fed}
+use Rattle.sq_feed.specs.Feeds.{Feeding, HasClosedFeed, HasLost, HasTold, format_of_source, lines_of, nothing_fed}
 use Rattle.sq_feed.specs.Readers.{calls_left}
 use Rattle.sq_feed.specs.declared.message.Stranger.{Stranger}
+use Rattle.sq_feed.specs.declared.message.Timed.{Timed}
 use Rattle.sq_feed.specs.declared.message.Stranger.TheVariants as strangers
 use Rattle.squitter_c.specs.declared.faults.Fault.{Fault}
 use Rattle.squitter_c.specs.declared.faults.Reason.TheVariants as reasons
@@ -43,7 +44,7 @@ manner_of leap late flags = record {
 -- a feed at the start of a source, or the fault: no format has the number, or the block is too small
 abbrev pub IsFeedMade : (number leap late flags size : ℕ) → (made : Option KeptFeed) → Fault → Type 0
 IsFeedMade number leap late flags size (Some feed) fault = (format : Option Format) × IsFeedFormat number format
-    × (feed ≡ nothing_fed format (manner_of leap late flags)) × (3072 ≤ size) × (fault ≡ none)
+    × (feed ≡ nothing_fed format (manner_of leap late flags)) × (20480 ≤ size) × (fault ≡ none)
 IsFeedMade number leap late flags size None fault = ((4 < number) × (fault ≡ fault_of reasons.NoFormat))
     ⊎ ((number ≤ 4) × (fault ≡ fault_of reasons.Memory))
 
@@ -55,13 +56,20 @@ pub record IsFilled {X : Type 0} (was is : List X) (count : ℕ) : Type 0 where
 
 -- ---- squitters in arrays
 
+-- squitters by their timestamps and frames, as many as there are of both
+abbrev pub squitters_of : List ℕ → List (List ℕ) → List Timed
+squitters_of [] frames = []
+squitters_of (moment ∷ moments) [] = []
+squitters_of (moment ∷ moments) (frame ∷ frames) =
+    record { moment = moment; frame = frame } ∷ squitters_of moments frames
+
 -- The feed took bytes, and stored their squitters. If both arrays have room for one more, it took all bytes, and no
 -- squitter waits.
 pub record HasTakenFrames (arrival : ℕ) (old new : Feeding) (piece moments_were moments : List ℕ)
     (frames_were frames : List (List ℕ)) (done : Done) : Type 0 where
   pub taken : done.taken ≤ length piece
-  pub given : HasGiven arrival old (take done.taken piece) [] [] (take done.written moments)
-      (take done.written frames) new
+  pub given : HasTold arrival old (take done.taken piece)
+      (squitters_of (take done.written moments) (take done.written frames)) new
   pub some : 0 < length piece → 0 < length moments → 0 < length frames → (0 < done.taken) ⊎ (0 < done.written)
   pub all : done.written < length moments → done.written < length frames
       → (done.taken ≡ length piece) × (calls_left new.reader ≡ 0)
@@ -97,21 +105,13 @@ IsFeedFinished arrival None new moments_were moments frames_were frames before a
 
 -- ---- lines in a buffer
 
--- `count` bytes of the piece were taken, and the lines of their squitters were written from index `at` up to `end`.
-pub record HasTakenSome (arrival : ℕ) (old new : Feeding) (piece : List ℕ) (count at end : ℕ) (was is : List ℕ) : Type 0
-  where
-    pub fits : count ≤ length piece
-    pub goes_on : calls_left new.reader < calls_left old.reader + 7 * count
-    pub some : 0 < length piece → (0 < count) ⊎ (at < end)
-    pub written : HasWritten arrival old (take count piece) (take at was) (take end is) new
-    pub from : (at ≤ end) × (end ≤ length is)
-    pub rest : (drop end is ≡ drop end was) × (length is ≡ length was)
-
 -- The feed took bytes, and wrote the lines of their squitters. If there is room for one more line, it took all bytes,
 -- and no line waits.
 pub record HasTakenText (arrival : ℕ) (old new : Feeding) (piece was is : List ℕ) (done : Done) : Type 0 where
   pub taken : done.taken ≤ length piece
-  pub written : HasWritten arrival old (take done.taken piece) [] (take done.written is) new
+  pub told : List Timed
+  pub given : HasTold arrival old (take done.taken piece) told new
+  pub written : take done.written is ≡ lines_of told
   pub some : 0 < length piece → 50 ≤ length is → (0 < done.taken) ⊎ (0 < done.written)
   pub all : done.written + 50 ≤ length is → (done.taken ≡ length piece) × (calls_left new.reader ≡ 0)
   pub filled : IsFilled was is done.written
@@ -151,6 +151,7 @@ pub record AreCounts (tally : Tally) (plain : PlainCounts) : Type 0 where
   pub written : plain.written ≡ tally.written
   pub mode_ac : plain.mode_ac ≡ tally.mode_ac
   pub multilaterated : plain.multilaterated ≡ tally.multilaterated
+  pub receiver_ids : plain.receiver_ids ≡ tally.receiver_ids
   pub damaged : plain.damaged ≡ tally.damaged
   pub aside : plain.aside ≡ tally.aside
   pub formats : plain.formats ≡ tally.formats

@@ -28,6 +28,7 @@ pub mod LogCalls
 pub mod LogLaws
 pub mod LogTexts
 pub mod OneTrackers
+pub mod TrackerLaws
 pub mod FeedCalls
 pub mod FeedLaws
 pub mod OrderCalls

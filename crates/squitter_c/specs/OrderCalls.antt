@@ -1,12 +1,12 @@
 -- Calls of an order.
 use Rattle.std.specs.Prelude.{◌≡◌, ◌≤◌, ◌<◌, ◌⊎◌, ℕ, false, List, [], Option, None, Some, length, take}
-use Rattle.sq_feed.specs.Orders.{HasFlushed, HasSorted, Sorting, is_due, nothing_sorted, squitters_of}
+use Rattle.sq_feed.specs.Orders.{HasFlushed, HasSorted, Sorting, is_due, nothing_sorted}
 use Rattle.squitter_c.specs.declared.faults.Fault.{Fault}
 use Rattle.squitter_c.specs.declared.faults.Reason.TheVariants as reasons
 use Rattle.squitter_c.specs.Faults.{fault_of, none}
 use Rattle.squitter_c.specs.Seal.{KeptOrder}
 use Rattle.squitter_c.specs.declared.log_take.Done.{Done}
-use Rattle.squitter_c.specs.FeedCalls.{IsFilled}
+use Rattle.squitter_c.specs.FeedCalls.{IsFilled, squitters_of}
 
 -- an order that holds nothing, or the fault if the block is too small
 abbrev pub IsOrderMade : (reorder size : ℕ) → (made : Option KeptOrder) → Fault → Type 0

@@ -1,10 +1,11 @@
 -- The complete result of a call of an order that left room.
 use Rattle.std.specs.Prelude.{◌≡◌, ◌<◌, ℕ, List, [], Option, Some, length, take}
-use Rattle.sq_feed.specs.Orders.{HasSorted, squitters_of}
+use Rattle.sq_feed.specs.Orders.{HasSorted}
 use Rattle.squitter_c.specs.declared.faults.Fault.{Fault}
 use Rattle.squitter_c.specs.Faults.{none}
 use Rattle.squitter_c.specs.Seal.{KeptOrder}
 use Rattle.squitter_c.specs.declared.log_take.Done.{Done}
+use Rattle.squitter_c.specs.FeedCalls.{squitters_of}
 use Rattle.squitter_c.specs.OrderCalls.{IsOrderFlushed, IsOrderTaken}
 
 -- If both arrays have room for one more, all squitters were taken, and those that were due were stored.

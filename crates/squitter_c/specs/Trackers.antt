@@ -24,6 +24,7 @@ use Rattle.squitter_c.specs.Sizes.{IsRoomFor}
 use Rattle.sq_track.specs.declared.heard.Heard.{Heard}
 use Rattle.sq_track.specs.declared.heard.TrackFault.{TrackFault}
 use Rattle.sq_track.specs.declared.heard.TrackFault.TheVariants.{MomentBack, Full, Memory, NoLimit}
+use Rattle.sq_track.specs.ByEntries.{IsHeardByEntries}
 use Rattle.sq_track.specs.Held.{Held, StandsFor, made_with, present_of, settings}
 use Rattle.sq_track.specs.History.{History}
 use Rattle.sq_track.specs.Replies.{IsReply, history_after}
@@ -60,11 +61,13 @@ of_tracker Memory = reasons.Memory
 of_tracker NoLimit = reasons.NoLimit
 
 -- The effect of a squitter on a tracker. For each history that the tracker represents, this is the reply, and the
--- tracker then represents the history after it. A refusal changes nothing. Only a position of an address that is not
--- present may need memory.
+-- tracker then represents the history after it. Any contents of the tracker also give the reply, and the contents after
+-- it. A refusal changes nothing. Only a position of an address that is not present may need
+-- memory.
 pub record IsReplied (moment : ℕ) (q : Squitter) (old new : Held) (reply : Result Heard TrackFault) : Type 0 where
   pub by_history : (h : History) → StandsFor old h → IsReply (settings old) h moment q reply
   pub after : (h : History) → StandsFor old h → StandsFor new (history_after h moment q reply)
+  pub by_entries : IsHeardByEntries moment q old new reply
   pub refused : OnErr reply (new ≡ old)
   pub settings : settings new ≡ settings old
   pub memory : reply ≡ Err Memory → IsPosition (squitter_parts q).me

@@ -18,6 +18,8 @@ pub struct PlainCounts {
     pub written: u64,
     pub mode_ac: u64,
     pub multilaterated: u64,
+    /// Ids of receivers, which are no frames.
+    pub receiver_ids: u64,
     pub damaged: u64,
     /// Squitters set aside because of their time.
     pub aside: u64,
@@ -28,7 +30,7 @@ pub struct PlainCounts {
 /// Returns the size of a feed in bytes.
 #[unsafe(no_mangle)]
 pub extern "C" fn squitter_feed_size() -> usize
-    ensures { result ≡ 3072 }
+    ensures { result ≡ 20480 }
 {
     FEED_BYTES
 }
@@ -129,6 +131,7 @@ fn plain_counts(counts: &Counts) -> PlainCounts
         written: counts.written(),
         mode_ac: counts.mode_ac(),
         multilaterated: counts.multilaterated(),
+        receiver_ids: counts.receiver_ids(),
         damaged: counts.damaged(),
         aside: counts.aside(),
         formats: counts.formats(),

@@ -21,10 +21,10 @@ pub fn made_feeds_exactly()
     ensures made { (number leap late flags size : ℕ) (k : KeptFeed) (fault : Fault)
         → IsFeedMade number leap late flags size (Some k) fault
         ↔ ((format : Option Format) × IsFeedFormat number format
-        × (k ≡ nothing_fed format (manner_of leap late flags)) × (3072 ≤ size) × (fault ≡ none)) }
+        × (k ≡ nothing_fed format (manner_of leap late flags)) × (20480 ≤ size) × (fault ≡ none)) }
     ensures few { (number : ℕ) (format : Option Format) → IsFeedFormat number format → number ≤ 4 }
     ensures room { (number leap late flags size : ℕ) (k : KeptFeed) (fault : Fault)
-        → IsFeedMade number leap late flags size (Some k) fault → (number ≤ 4) × (3072 ≤ size) }
+        → IsFeedMade number leap late flags size (Some k) fault → (number ≤ 4) × (20480 ≤ size) }
     ensures moments { (leap late flags : ℕ) → ((manner_of leap late flags).leap ≡ leap)
         × ((manner_of leap late flags).late ≡ late) }
     ensures live { (leap late : ℕ) → map (λ flags. (manner_of leap late flags).is_live) (0 ∷ 1 ∷ 2 ∷ 4 ∷ 15 ∷ [])
@@ -71,6 +71,7 @@ pub fn counts_exactly()
         ↔ (AreCounts k.ear.counts is × (fault ≡ none)) }
     ensures numbers { (tally : Tally) (is : PlainCounts) → AreCounts tally is ↔ ((is.found ≡ tally.found)
         × (is.written ≡ tally.written) × (is.mode_ac ≡ tally.mode_ac) × (is.multilaterated ≡ tally.multilaterated)
+        × (is.receiver_ids ≡ tally.receiver_ids)
         × (is.damaged ≡ tally.damaged) × (is.aside ≡ tally.aside) × (is.formats ≡ tally.formats)) }
 {}
 

@@ -10,7 +10,7 @@ use sq_lent::{Lent, Room};
 use std::mem::replace;
 
 /// The bytes of a block for a feed.
-pub const FEED_BYTES: usize = 3072;
+pub const FEED_BYTES: usize = 20_480;
 
 /// A feed, or none: all bytes 0 mean none. C lends these 16 bytes, and neither writes to them nor copies them.
 #[repr(C)]
@@ -25,7 +25,7 @@ pub struct FeedSlot {
 /// bytes of the source show it. Returns `None` if the room has fewer than `FEED_BYTES` bytes.
 pub fn feed_in(room: Room, format: Option<Format>, manner: &Manner) -> Option<Box<Feed, Lent>>
     ensures new { IfSome result (λ b. b.value ≡ nothing_fed format manner.now) }
-    ensures room { IfSome result (λ b. 3072 ≤ room.size) }
+    ensures room { IfSome result (λ b. 20480 ≤ room.size) }
 {
     if room.len() < FEED_BYTES {
         return None;

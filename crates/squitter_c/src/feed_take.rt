@@ -6,7 +6,7 @@ ghost use Rattle.squitter_c.specs.Slots.{held_feed};
 use crate::faults::{Fault, NONE, Reason};
 use crate::feed_slot::FeedSlot;
 use crate::log_take::Done;
-use sq_feed::Feed;
+use sq_feed::{Feed, Timed};
 
 /// Gives a feed the next bytes of its source, received at `arrival` (ms). Stores the timestamps (ms) and the frames of
 /// their squitters, as many as fit both arrays. `done` has the number of bytes taken, and of squitters stored. If both
@@ -38,7 +38,7 @@ pub extern "C" fn squitter_feed_take(
 
 /// Ends the source, and stores its last squitters with their timestamps, as many as fit both arrays. `done` has the
 /// number stored. If both arrays have room for one more, these are all, and the next bytes are of another source.
-/// Otherwise the others come with further calls, which may have no bytes. There are five at most.
+/// Otherwise the others come with further calls, which may have no bytes.
 ///
 /// The fault is `NoTracker` if there is no feed; nothing is changed then.
 #[unsafe(no_mangle)]
@@ -72,7 +72,19 @@ fn take_by(
 ) -> Done
     ensures { HasTakenFrames arrival feed.old feed.new piece.now moments.old moments.new frames.old frames.new result }
 {
-    let (taken, written) = feed.take_frames(piece, arrival, moments, frames);
+    let room = moments.len().min(frames.len());
+    let mut slot = Timed::default();
+    let mut taken = 0;
+    let mut written = 0;
+    while feed.goes_on(piece.len() - taken) && written < room {
+        let step = feed.step_into::<0>(&piece[taken..], arrival, &mut slot);
+        taken += step.taken;
+        if step.is_filled {
+            moments[written] = slot.moment;
+            frames[written] = slot.frame;
+            written += 1;
+        }
+    }
     Done { taken, written }
 }
 

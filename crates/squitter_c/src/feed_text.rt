@@ -1,22 +1,20 @@
 //! The lines of a source's squitters, pushed in pieces: as many as fit a buffer.
-ghost use Rattle.std.specs.Prelude.{◌≡◌, ◌⊎◌, ◌+◌, ◌++◌, ◌<◌, ◌≤◌, drop, length, take};
+ghost use Rattle.std.specs.Prelude.{◌≡◌, ◌+◌, ◌++◌, ◌≤◌, drop, length, take};
+ghost use Rattle.sq_digits.specs.Buffer.{text_len};
 ghost use Rattle.sq_feed.specs.Lines.{log_line};
-ghost use Rattle.sq_feed.specs.Readers.{calls_left};
-ghost use Rattle.squitter_c.specs.FeedCalls.{HasEndedInText, HasTakenSome, HasTakenText, IsFeedTextFinished};
-ghost use Rattle.squitter_c.specs.FeedCalls.{IsFeedTextTaken};
+ghost use Rattle.squitter_c.specs.FeedCalls.{HasEndedInText, HasTakenText, IsFeedTextFinished, IsFeedTextTaken};
 ghost use Rattle.squitter_c.specs.Slots.{held_feed};
 
 use crate::faults::{Fault, NONE, Reason};
 use crate::feed_slot::FeedSlot;
 use crate::log_take::Done;
 use crate::log_text::put_at;
-use sq_feed::{Feed, LINE_LIMIT, TextBuffer, push_log_line};
+use sq_feed::{Feed, LINE_LIMIT, TextBuffer, Timed, push_log_line};
 
 // The size of the buffer for several lines.
-const LINES: usize = 1024;
+const LINES: usize = 512;
 
-// A piece with fewer bytes has few lines, and the buffer would cost more than it saves.
-const SEVERAL: usize = 256;
+type Lines = TextBuffer<LINES>;
 
 /// Gives a feed the next bytes of its source, received at `arrival` (ms). Writes its squitters as lines of a log. A
 /// line has up to 50 bytes, and is begun only if 50 bytes are free. `done` has the number of bytes taken from the
@@ -46,7 +44,7 @@ pub extern "C" fn squitter_feed_take_text(
 
 /// Ends the source, and writes the lines of its last squitters, as long as 50 bytes are free. `done` has the number of
 /// bytes written. If 50 bytes are free afterwards, these are all, and the next bytes are of another source. Otherwise
-/// the others come with further calls, which may have no bytes. There are five at most.
+/// the others come with further calls, which may have no bytes.
 ///
 /// The fault is `NoTracker` if there is no feed; nothing is changed then.
 #[unsafe(no_mangle)]
@@ -69,92 +67,46 @@ pub extern "C" fn squitter_feed_finish_text(
     }
 }
 
-// Takes a piece.
+// Takes a piece. Several lines are copied together.
 fn take_by(feed: &mut Feed, piece: &[u8], arrival: u64, out: &mut [u8]) -> Done
     ensures { HasTakenText arrival feed.old feed.new piece.now out.old out.new result }
 {
+    let mut slot = Timed::default();
+    let mut lines = Lines::new();
     let mut taken = 0;
-    let mut written = 0;
-    while feed.goes_on(piece.len() - taken) && out.len() - written >= LINE_LIMIT {
-        let (count, end) = take_some(feed, &piece[taken..], arrival, out, written);
-        taken += count;
-        written = end;
+    let mut at = 0;
+    while feed.goes_on(piece.len() - taken) && out.len() - at - lines.len() >= LINE_LIMIT {
+        let step = feed.step_into::<1>(&piece[taken..], arrival, &mut slot);
+        taken += step.taken;
+        if step.is_filled {
+            at = put_line(out, at, &mut lines, &slot);
+        }
     }
+    put_at(out, at, lines.as_bytes());
+    let written = at + lines.len();
     Done { taken, written }
 }
 
-// Takes bytes of the piece and writes their lines from index `at` on. Returns the number of bytes taken, and the index
-// after the last line.
-fn take_some(
-    feed: &mut Feed,
-    piece: &[u8],
-    arrival: u64,
-    out: &mut [u8],
-    at: usize,
-) -> (usize, usize)
-    requires some { (0 < length piece.now) ⊎ (0 < calls_left feed.old.reader) }
-    requires room { at + 50 ≤ length out.old }
-    ensures { HasTakenSome arrival feed.old feed.new piece.now result.0 at result.1 out.old out.new }
-{
-    if out.len() - at < LINES || piece.len() < SEVERAL {
-        take_line(feed, piece, arrival, out, at)
-    } else {
-        take_lines(feed, piece, arrival, out, at)
-    }
-}
-
-// Does the same as `take_some` with several lines: it collects them in a buffer and copies them together.
-fn take_lines(
-    feed: &mut Feed,
-    piece: &[u8],
-    arrival: u64,
-    out: &mut [u8],
-    at: usize,
-) -> (usize, usize)
-    requires some { (0 < length piece.now) ⊎ (0 < calls_left feed.old.reader) }
-    requires room { at + 1024 ≤ length out.old }
-    ensures { HasTakenSome arrival feed.old feed.new piece.now result.0 at result.1 out.old out.new }
-{
-    let mut lines = TextBuffer::<LINES>::new();
-    let count = feed.take(piece, arrival, &mut lines);
-    put_at(out, at, lines.as_bytes());
-    (count, at + lines.len())
-}
-
-// Takes bytes up to the end of the first squitter, or all of them, and writes its line at index `at`. Returns the
-// number of bytes taken, and the index after the line.
-fn take_line(
-    feed: &mut Feed,
-    piece: &[u8],
-    arrival: u64,
-    out: &mut [u8],
-    at: usize,
-) -> (usize, usize)
-    requires some { (0 < length piece.now) ⊎ (0 < calls_left feed.old.reader) }
-    requires room { at + 50 ≤ length out.old }
-    ensures { HasTakenSome arrival feed.old feed.new piece.now result.0 at result.1 out.old out.new }
-{
-    let mut moments = [0u64];
-    let mut frames = [[0u8; 14]];
-    let (count, given) = feed.take_frames(piece, arrival, &mut moments, &mut frames);
-    if given == 0 {
-        return (count, at);
-    }
-    (count, put_line(out, at, moments[0], &frames[0]))
-}
-
-// Writes the line of a frame and its timestamp at index `at`. Returns the index after the line.
-fn put_line(out: &mut [u8], at: usize, moment: u64, frame: &[u8; 14]) -> usize
-    requires { at + 50 ≤ length out.old }
-    ensures line { take result out.new ≡ take at out.old ++ log_line moment frame.now }
-    ensures end { (at < result) × (result ≤ length out.new) }
-    ensures rest { drop result out.new ≡ drop result out.old }
+// Appends the line of a squitter to those in the buffer. If the buffer has no room for the line, the lines in it are
+// written first, from index `at` on. Returns the index at which the lines in the buffer belong.
+#[inline(always)]
+fn put_line(out: &mut [u8], at: usize, lines: &mut Lines, one: &Timed) -> usize
+    requires { at + text_len lines.old + 50 ≤ length out.old }
+    ensures line { take result out.new ++ lines.new.bytes
+        ≡ (take at out.old ++ lines.old.bytes) ++ log_line one.now.moment one.now.frame }
+    ensures fits { result + text_len lines.new ≤ length out.new }
+    ensures rest { (at ≤ result) × (drop result out.new ≡ drop result out.old) }
     ensures long { length out.new ≡ length out.old }
 {
-    let mut text = TextBuffer::<LINE_LIMIT>::new();
-    push_log_line(&mut text, moment, frame);
-    put_at(out, at, text.as_bytes());
-    at + text.len()
+    if lines.len() + LINE_LIMIT <= LINES {
+        push_log_line(lines, one.moment, &one.frame);
+        return at;
+    }
+    put_at(out, at, lines.as_bytes());
+    let end = at + lines.len();
+    lines.clear();
+    push_log_line(lines, one.moment, &one.frame);
+    end
 }
 
 // Ends a source.

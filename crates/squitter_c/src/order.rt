@@ -7,7 +7,7 @@ ghost use Rattle.squitter_c.specs.Slots.{held_order};
 use crate::faults::{Fault, NONE, Reason};
 use crate::log_take::Done;
 use crate::order_slot::{ORDER_BYTES, OrderSlot, order_in};
-use sq_feed::Order;
+use sq_feed::{Order, Timed};
 use sq_lent::Room;
 
 /// Returns the size of an order in bytes.
@@ -122,7 +122,25 @@ fn take_by(
     ensures { HasTakenInOrder order.old order.new moments.now frames.now out_moments.old out_moments.new out_frames.old
         out_frames.new result }
 {
-    let (taken, written) = order.take(moments, frames, out_moments, out_frames);
+    let count = moments.len().min(frames.len());
+    let room = out_moments.len().min(out_frames.len());
+    let mut slot = Timed::default();
+    let mut taken = 0;
+    let mut written = 0;
+    while written < room && (taken < count || order.is_due()) {
+        if order.give_into(&mut slot) {
+            out_moments[written] = slot.moment;
+            out_frames[written] = slot.frame;
+            written += 1;
+        } else {
+            let frame = frames[taken];
+            order.put(&Timed {
+                moment: moments[taken],
+                frame,
+            });
+            taken += 1;
+        }
+    }
     Done { taken, written }
 }
 
@@ -130,6 +148,13 @@ fn take_by(
 fn flush_by(order: &mut Order, out_moments: &mut [u64], out_frames: &mut [[u8; 14]]) -> Done
     ensures { HasGivenHeld order.old order.new out_moments.old out_moments.new out_frames.old out_frames.new result }
 {
-    let written = order.flush(out_moments, out_frames);
+    let room = out_moments.len().min(out_frames.len());
+    let mut slot = Timed::default();
+    let mut written = 0;
+    while written < room && order.flush_into(&mut slot) {
+        out_moments[written] = slot.moment;
+        out_frames[written] = slot.frame;
+        written += 1;
+    }
     Done { taken: 0, written }
 }

@@ -1,16 +1,19 @@
-use Rattle.std.proofs.Common.{◌≡◌, ◌≤◌, ◌+◌, ◌*◌, ◌-◌, [], drop, length, take}
-use Rattle.sq_feed.specs.Feeds.{HasWritten}
-use Rattle.sq_feed.specs.Readers.{calls_left}
+use Rattle.std.proofs.Common.{◌≡◌, ◌≤◌, ◌+◌, ◌-◌, ◌++◌, List, drop, length, take}
+use Rattle.sq_digits.specs.Buffer.{text_len}
+use Rattle.sq_feed.specs.declared.message.Timed.{Timed}
+use Rattle.sq_feed.specs.Feeds.{HasTold, lines_of}
+use Rattle.sq_feed.specs.Readers.{calls_for, calls_left}
 use Rattle.squitter_c.proofs.feed_text.take_by.Given as goal
 
-abbrev pub invariant-loop-feed : goal.invariant-loop-feed
-invariant-loop-feed l = record {
+abbrev pub invariant-loop-lines : goal.invariant-loop-lines
+invariant-loop-lines l = record {
   taken : l.taken ≤ length l.piece;
-  fits : l.written ≤ length l.out;
-  gone : HasWritten l.arrival l.initial.feed (take l.taken l.piece) [] (take l.written l.out) l.feed;
-  rest : drop l.written l.out ≡ drop l.written l.initial.out;
+  fits : l.at + text_len l.lines ≤ length l.out;
+  told : (told : List Timed) × HasTold l.arrival l.initial.feed (take l.taken l.piece) told l.feed
+      × (take l.at l.out ++ l.lines.bytes ≡ lines_of told);
+  rest : drop l.at l.out ≡ drop l.at l.initial.out;
   long : length l.out ≡ length l.initial.out;
 }
 
-abbrev pub decreases-loop-feed : goal.decreases-loop-feed
-decreases-loop-feed l = 7 * (length l.piece - l.taken) + calls_left l.feed.reader
+abbrev pub decreases-loop-lines : goal.decreases-loop-lines
+decreases-loop-lines l = calls_left l.feed.reader + calls_for (length l.piece - l.taken)
