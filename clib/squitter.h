@@ -316,6 +316,7 @@ typedef struct squitter_counts {
   uint64_t written;        /* squitters, with a timestamp */
   uint64_t mode_ac;        /* replies of Mode A/C */
   uint64_t multilaterated; /* frames that a server computed by multilateration */
+  uint64_t receiver_ids;   /* ids of receivers in a Beast stream, which are no frames */
   uint64_t damaged;        /* bytes outside messages, and frames of the wrong length for their downlink format */
   uint64_t aside;          /* squitters that were set aside because of their time */
   uint64_t formats[25];    /* frames of each downlink format other than 17; [24] counts formats 24 and above */
@@ -416,10 +417,12 @@ size_t squitter_tracker_save(squitter_tracker *SQUITTER_RESTRICT tracker, squitt
  *   - more entries than the limit, or an address twice;
  *   - an address that is not present at last->moment;
  *   - an entry with an earlier timestamp than the entry before it;
- *   - a frame of another address, kind or parity;
- *   - a frame or a fix newer than the newest position.
- * A restored fix may lie anywhere. Faults: NO_TRACKER, BAD_ENTRY (`first` is the index). After BAD_ENTRY the tracker is
- * as if it had heard no frame. */
+ *   - a frame of another address, kind or parity, or newer than the newest position;
+ *   - a fix that is no point of its kind's grid, as the fractions that save writes;
+ *   - a fix newer than the frame of its point's parity, or without a frame of the other parity.
+ * A restored fix may be another point of the grid than the frames gave. The state has no check sum, and many states in
+ * which one bit was changed are accepted: keep a check sum of your own if the state goes through a disk or a network.
+ * Faults: NO_TRACKER, BAD_ENTRY (`first` is the index). After BAD_ENTRY the tracker is as if it had heard no frame. */
 squitter_fault squitter_tracker_restore(squitter_tracker *SQUITTER_RESTRICT tracker, const squitter_last *last,
                                         const squitter_entry *entries, size_t entries_count) SQUITTER_CALL;
 
@@ -450,7 +453,9 @@ squitter_fault squitter_log_take(squitter_log *SQUITTER_RESTRICT log, const char
                                  squitter_done *SQUITTER_RESTRICT done) SQUITTER_CALL;
 
 /* Writes the results of the lines that still wait, and of a last line without a line feed. If the call returns OK and
- * done->written < out_count, all results are written; otherwise call again. Faults: those of squitter_log_take. */
+ * done->written < out_count, all results are written; otherwise call again. It ends the line and not the log: the next
+ * piece begins a new line, with the next number, and the log keeps its aircraft, its last timestamp and its tally.
+ * Faults: those of squitter_log_take. */
 squitter_fault squitter_log_finish(squitter_log *SQUITTER_RESTRICT log, squitter_answer *SQUITTER_RESTRICT out,
                                    size_t out_count, squitter_done *SQUITTER_RESTRICT done) SQUITTER_CALL;
 
@@ -491,7 +496,7 @@ squitter_fault squitter_log_tally(squitter_log *SQUITTER_RESTRICT log,
 enum {
   SQUITTER_FEED_BEAST = 0, /* Beast binary */
   SQUITTER_FEED_AVR = 1,   /* AVR text, with clocks or without */
-  SQUITTER_FEED_CSV = 2,   /* CSV: columns `time` (s) and `rawmsg`; if no header names them, columns 1 and 3 */
+  SQUITTER_FEED_CSV = 2,   /* CSV: columns `time`, `mintime` or `timestamp` (s), and `rawmsg`; without a header 1 and 3 */
   SQUITTER_FEED_LOG = 3,   /* a log: a timestamp (ms), a space and a frame on each line */
   SQUITTER_FEED_AUTO = 4   /* the first bytes show the format; not known yet */
 };
@@ -518,17 +523,17 @@ enum {
 /* Returns the size in bytes of the block for a feed. */
 size_t squitter_feed_size(void) SQUITTER_PURE;
 
-/* Creates a feed in the block, at the start of a source. With SQUITTER_FEED_AUTO, the first bytes show the format:
- * three Beast messages in a row; a line of a log, a row of a table or its header; a frame at the start of a line of AVR
- * text. The first byte that shows a format decides, however the source is cut into pieces. The bytes before the first
- * message count as one damage. A source without any sign in its first 16384 bytes has no frames. A gap above `leap`
- * milliseconds is a jump of the source's clock. A timestamp may be before the latest one by `late` milliseconds; with
- * 0, timestamps never go back. `flags` is a sum of SQUITTER_FEED_LIVE, SQUITTER_FEED_BY_ARRIVAL and
- * SQUITTER_FEED_ALL_FORMATS; its other bits are ignored. For a live source, `arrival` is the time (ms) when the bytes
- * were received. A frame without a clock is as much later than the one before it as their arrivals are apart. An
- * existing feed is freed first. After a fault there is no feed, and the block is the caller's. Faults: BAD_FORMAT,
- * NO_MEMORY (the block is smaller than squitter_feed_size returns). squitter feed and squitter-feed use a leap of
- * 600000. */
+/* Creates a feed in the block, at the start of a source. With SQUITTER_FEED_AUTO, the first bytes show the format: the
+ * start of a Beast message, or two messages in a row after other bytes; a line of a log, a row of a table or its
+ * header; a frame at the start of a line of AVR text. The first byte that shows a format decides, however the source is
+ * cut into pieces. The whole source is then read in that format, from its first byte on. A source that shows none in
+ * its first 16384 bytes has no frames. A gap above `leap` milliseconds is a jump of the source's clock. A timestamp may
+ * be before the latest one by `late` milliseconds; with 0, timestamps never go back. `flags` is a sum of
+ * SQUITTER_FEED_LIVE, SQUITTER_FEED_BY_ARRIVAL and SQUITTER_FEED_ALL_FORMATS; its other bits are ignored. For a live
+ * source, `arrival` is the time (ms) when the bytes were received. A frame without a clock is as much later than the
+ * one before it as their arrivals are apart. An existing feed is freed first. After a fault there is no feed, and the
+ * block is the caller's. Faults: BAD_FORMAT, NO_MEMORY (the block is smaller than squitter_feed_size returns). squitter
+ * feed and squitter-feed use a leap of 600000. */
 squitter_fault squitter_feed_new(squitter_feed *feed, squitter_block block, uint32_t format, uint64_t leap,
                                  uint64_t late, uint32_t flags) SQUITTER_CALL;
 
@@ -547,8 +552,8 @@ squitter_fault squitter_feed_take(squitter_feed *SQUITTER_RESTRICT feed, const c
                                   squitter_done *SQUITTER_RESTRICT done) SQUITTER_CALL;
 
 /* Ends the source, and writes its last squitters, as many as fit both arrays. If done->written is below both array
- * lengths, these are all: five at most. Otherwise the others come with further calls of squitter_feed_take, which may
- * have no bytes. The next bytes belong to another source. Fault: NO_TRACKER. */
+ * lengths, these are all. Otherwise the others come with further calls of squitter_feed_take, which may have no bytes.
+ * The next bytes belong to another source. Fault: NO_TRACKER. */
 squitter_fault squitter_feed_finish(squitter_feed *SQUITTER_RESTRICT feed, uint64_t arrival,
                                     uint64_t *SQUITTER_RESTRICT moments, size_t moments_count,
                                     uint8_t (*SQUITTER_RESTRICT frames)[14], size_t frames_count,
@@ -731,7 +736,7 @@ SQUITTER_SIZE(squitter_done, 16);
 SQUITTER_SIZE(squitter_tally, 16);
 SQUITTER_SIZE(squitter_feed, 16);
 SQUITTER_SIZE(squitter_order, 16);
-SQUITTER_SIZE(squitter_counts, 248);
+SQUITTER_SIZE(squitter_counts, 256);
 
 #ifdef __cplusplus
 }

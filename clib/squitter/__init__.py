@@ -26,7 +26,9 @@ from fractions import Fraction
 from numbers import Rational
 from typing import Any, Callable, List, NamedTuple, Optional, Sequence, Tuple, TypeVar, Union
 
-from squitter._errors import hint_of_altitude, hint_of_field, hint_of_head, hint_of_text, index, shown, whole
+from squitter._errors import (
+    hint_of_altitude, hint_of_code, hint_of_field, hint_of_head, hint_of_text, index, shown, whole,
+)
 from squitter._library import (
     _FRAME, _Position, _fits, _frames, _layout, _length, _lib, _lowest_two, _quick, _read_angle, _text,
 )
@@ -38,11 +40,17 @@ from squitter._results import Results
 
 __all__ = [
     "AirHead", "Altitude", "AltitudeForm", "Code", "Contact", "Counts", "Fault", "Feed", "FeedFormat", "Fields",
-    "Format", "Frame", "GroundHead", "Heard", "Kind", "Log", "Order", "Position", "Present", "Results", "Tally",
-    "Tracker", "WINDOW", "What", "Zones", "angle", "angle_e7", "angle_text", "encode", "fault_text", "feet_of_field",
-    "field_of_feet", "frame", "frame_text", "local", "local_many", "local_zones", "pair", "pair_many", "position_e7",
-    "read", "read_many", "send_again", "version", "zone_count",
+    "Format", "Frame", "GroundHead", "Heard", "Kind", "Log", "Order", "Position", "Present", "Results", "Stranger",
+    "Tally", "Tracker", "WINDOW", "What", "Zones", "angle", "angle_e7", "angle_text", "encode", "fault_text",
+    "feet_of_field", "field_of_feet", "frame", "frame_text", "local", "local_many", "local_zones", "pair",
+    "pair_many", "position_e7", "read", "read_many", "send_again", "version", "zone_count",
 ]
+
+
+def __dir__() -> List[str]:
+    """Returns the public names, which a prompt completes."""
+    return sorted({*__all__, *(name for name in globals() if name.startswith("__") or name == "batch")})
+
 
 Frame = Union[bytes, bytearray, str]
 """A frame: 14 bytes, or a frame text."""
@@ -62,16 +70,16 @@ WINDOW = 10_000
 
 
 class Fault(ValueError):
-    """The first error of a call. Its ``str`` is the library's text, followed by a hint if there is one. Faults with the
-    same code and numbers are equal."""
+    """The first error of a call. Its ``str`` is the library's text, followed by a hint that says what to do. Faults
+    with the same code and numbers are equal."""
 
     def __init__(self, code: int, first: int = 0, second: int = 0, hint: str = "") -> None:
         self.code = Code(code)
         self.first = first
         self.second = second
-        self.hint = hint
+        self.hint = hint or hint_of_code(code)
         text = _words(code, first, second)
-        super().__init__(f"{text}: {hint}" if hint else text)
+        super().__init__(f"{text}: {self.hint}" if self.hint else text)
 
     def __eq__(self, other: object) -> bool:
         """Returns whether the other is a fault with the same code and numbers, whatever their hints."""
@@ -95,33 +103,34 @@ class Position(NamedTuple):
 
 
 class Fields(NamedTuple):
-    """A squitter, field by field. A field that its kind lacks is 0; ``squitter.h`` gives the ranges."""
+    """A squitter, field by field. A field that its kind lacks is 0, or None where 0 is a value: ``lat`` and ``lon``
+    (the CPR code) of kind other, and ``feet`` unless ``altitude_form`` is FEET. ``squitter.h`` gives the ranges."""
 
     kind: Kind
     address: int
     ca: int
     type_code: int
     odd: int
-    lat: int
-    lon: int
+    lat: Optional[int]
+    lon: Optional[int]
     time: int
     status: int
     flag: int
     altitude: int
     altitude_form: AltitudeForm
-    feet: int
+    feet: Optional[int]
     movement: int
     track_status: int
     track: int
     raw: int
 
     @property
-    def lat_code(self) -> int:
+    def lat_code(self) -> Optional[int]:
         """The CPR code of the latitude, 17 bits: the field `lat`, which is not in degrees."""
         return self.lat
 
     @property
-    def lon_code(self) -> int:
+    def lon_code(self) -> Optional[int]:
         """The CPR code of the longitude, 17 bits: the field `lon`, which is not in degrees."""
         return self.lon
 
@@ -170,10 +179,10 @@ class Zones(NamedTuple):
 
 
 class Altitude(NamedTuple):
-    """The meaning of an altitude field; ``feet`` is 0 in the other forms."""
+    """The meaning of an altitude field; ``feet`` is None in the other forms."""
 
     form: AltitudeForm
-    feet: int
+    feet: Optional[int]
 
 
 class Heard(NamedTuple):
@@ -313,6 +322,7 @@ _KINDS, _FORMS, _WHATS = ({int(member): member for member in kind} for kind in (
 _FIELDS, _HEARD, _PLACE, _FAULT = map(_layout, (_Fields, _Heard, _Position, _Fault))
 _unpacked_fields, _unpacked_heard = _FIELDS.unpack_from, _HEARD.unpack_from
 _LAST_PLACED = int(What.FOLLOWED)  # FIX and FOLLOWED have positions
+_OTHER, _FEET = int(Kind.OTHER), int(AltitudeForm.FEET)
 _Members = Tuple[int, ...]
 
 # A named tuple is made of a tuple, because its own constructor takes four times as long.
@@ -322,9 +332,10 @@ _tuple: Any = tuple.__new__
 def _fields_of(members: _Members) -> Fields:
     (raw, address, lat, lon, feet, altitude, form, kind, ca, type_code, odd, time, status, flag, movement, track_status,
      track) = members
+    code = (lat, lon) if kind != _OTHER else (None, None)
     made: Fields = _tuple(Fields, (
-        _KINDS[kind], address, ca, type_code, odd, lat, lon, time, status, flag, altitude, _FORMS[form], feet, movement,
-        track_status, track, raw))
+        _KINDS[kind], address, ca, type_code, odd, *code, time, status, flag, altitude, _FORMS[form],
+        feet if form == _FEET else None, movement, track_status, track, raw))
     return made
 
 
@@ -608,7 +619,7 @@ def feet_of_field(type_code: int, field: int) -> Altitude:
     if not _fits(numbers[0], 8) or not _fits(numbers[1], 16) or \
             _lib.squitter_feet_of_field(*numbers, ctypes.byref(out)).code:
         raise Fault(Code.BAD_FIELDS, hint=hint_of_altitude(*numbers))
-    return Altitude(AltitudeForm(out.form), out.feet)
+    return Altitude(AltitudeForm(out.form), out.feet if out.form == _FEET else None)
 
 
 def field_of_feet(feet: int) -> int:

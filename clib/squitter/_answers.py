@@ -14,7 +14,7 @@ from squitter import WINDOW, AltitudeForm, Kind, Point, Position, What
 from squitter._errors import missing
 from squitter._made import _Answer
 from squitter._records import FAULT, POSITION, TRACKED, Records, _limit, _moments, kind_of, name_of_type, refuse_mask
-from squitter._source import Source, bytes_of, refuse_other, squitters_of
+from squitter._source import Source, bytes_of, refuse_none, squitters_of, unpacked, warn_of_times
 
 if TYPE_CHECKING:
     import pandas  # type: ignore[import]
@@ -289,25 +289,23 @@ def dataframe(
     Values that a line lacks are missing: NaN in `lat` and `lon`, which are floats, and NA or None in other columns.
     With `exact`, the Fractions `lat_exact` and `lon_exact` follow.
 
-    The log is a file, by its name or open for bytes, or bytes, or a table with the columns `moment` and `frame`. A file
-    may also be a receiver's: Beast, AVR with a clock, or CSV, as :func:`squitter.batch.feed` reads them; `line` then
-    counts its squitters. Window, site and limit are those of :func:`squitter.batch.track`. Raises ValueError for an
-    archive and for frames without times, and KeyError for a table without one of the two columns.
+    The log is a file or a pipe, by its name or open for bytes, or bytes, or a table with the columns `moment` and
+    `frame`. A file may also be a receiver's: Beast, AVR or CSV, as :func:`squitter.batch.feed` reads them; `line` then
+    counts its squitters. It may be packed by gzip, bzip2 or xz. Frames without times get the timestamp 0, and a warning
+    says so if there are several. Window, site and limit are those of :func:`squitter.batch.track`. Raises ValueError if
+    no frame is in the file, or if an archive is damaged or ends early, and KeyError for a table without one of the two
+    columns. A site may be any floats: they are rounded to 12 decimals, a tenth of a micrometre.
     """
     try:
         import pandas
     except ModuleNotFoundError as error:
         raise missing(error, "batch.dataframe", "pandas") from None
 
+    site = _rounded(site)
     if isinstance(log, (str, os.PathLike, bytes, bytearray, memoryview)) or hasattr(log, "read"):
-        data = bytes_of(log)
-        squitters = squitters_of(data, log)
+        told, places = _columns_of_file(log, window, site, limit, exact)
     else:
-        squitters = _column(log, "moment"), _column(log, "frame")
-    if squitters is None:
-        told, places = _columns_of_log(data, log, window, site, limit, exact)
-    else:
-        told, places = _columns_of_squitters(*squitters, window, site, limit)
+        told, places = _columns_of_squitters(_column(log, "moment"), _column(log, "frame"), window, site, limit)
     frame = pandas.DataFrame({name: _of_pandas(name, values) for name, values in told.items()}, copy=False)
     if exact:
         both = fractions(places)
@@ -316,7 +314,33 @@ def dataframe(
     return frame
 
 
+def _rounded(site: Optional[Point]) -> Optional[Point]:
+    """Returns a site with floats of at most 12 decimals; any other value as it is."""
+    try:
+        lat, lon = site if site is not None else ()
+    except (TypeError, ValueError):
+        return site
+    return tuple(round(part, 12) if isinstance(part, float) else part for part in (lat, lon))
+
+
 _LINE_OF_FRAME = 30  # bytes of the shortest line with a frame
+
+
+def _columns_of_file(
+    log: Source, window: int, site: Optional[Point], limit: Optional[int], exact: bool
+) -> Tuple[Dict[str, np.ma.MaskedArray[Any, Any]], Records]:
+    """Decodes a file. Returns the columns of its results, and the positions. Frames without times may be a log of which
+    the first lines lack theirs."""
+    data = unpacked(bytes_of(log), log)
+    squitters = squitters_of(data, log)
+    if squitters is None or not squitters[0].any():
+        told, places, has_good = _columns_of_log(data, window, site, limit, exact)
+        if squitters is None and not has_good:
+            refuse_none(data, log)
+        if squitters is None or has_good:
+            return told, places
+    warn_of_times(squitters, 3)
+    return _columns_of_squitters(*squitters, window, site, limit)
 
 
 def _columns_of_squitters(
@@ -331,10 +355,11 @@ def _columns_of_squitters(
 
 
 def _columns_of_log(
-    data: npt.NDArray[np.uint8], log: Source, window: int, site: Optional[Point], limit: Optional[int], exact: bool,
-) -> Tuple[Dict[str, np.ma.MaskedArray[Any, Any]], Records]:
-    """Decodes a log. Returns the columns of its results, and with `exact` the positions (POSITION). There are at most
-    as many addresses as lines that fit a frame. Raises the Faults BAD_POSITION (the site), NO_MEMORY."""
+    data: npt.NDArray[np.uint8], window: int, site: Optional[Point], limit: Optional[int], exact: bool,
+) -> Tuple[Dict[str, np.ma.MaskedArray[Any, Any]], Records, bool]:
+    """Decodes a log. Returns the columns of its results, with `exact` the positions (POSITION), and whether a line is
+    good. There are at most as many addresses as lines that fit a frame. Raises the Faults BAD_POSITION (the site),
+    NO_MEMORY."""
     most = _limit(window, limit, len(data) // _LINE_OF_FRAME + 1)
     table, room, parts = _Table(_line_feeds(data) + 1), np.empty(_AT_ONCE, ANSWER), [np.zeros(0, POSITION)]
     with squitter.Log(window, site, most) as listener:
@@ -343,9 +368,7 @@ def _columns_of_log(
             table.add(answers["number"], answers["moment"], _fields(answers), answers["fault"])
             if exact:
                 parts.append(answers.view(_PLACES)["place"].copy().view(POSITION))
-    if not table.has_good:
-        refuse_other(data, log)
-    return table.columns(), np.concatenate(parts)
+    return table.columns(), np.concatenate(parts), table.has_good
 
 
 def _column(table: Any, name: str) -> Any:

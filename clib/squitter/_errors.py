@@ -4,9 +4,9 @@ from __future__ import annotations
 
 import operator
 import re
-from typing import Any, Container, Dict, Tuple, Type
+from typing import Any, Container, Dict, Optional, Tuple, Type
 
-from squitter._made import Code
+from squitter._made import Code, Stranger
 
 _MOST_SHOWN = 60  # characters
 
@@ -58,20 +58,19 @@ def missing(error: ModuleNotFoundError, user: str, wanted: str) -> ModuleNotFoun
         f"{user} needs {wanted}: pip install {package}, or apt install python3-{package}", name=error.name)
 
 
-# The first bytes of archives, their names, and the modules of Python that open and unpack them.
+# The first bytes of archives, their names, and the modules of Python that unpack them.
 _PACKED = (
     (rb"\x1f\x8b", "gzip", "gzip"), (rb"BZh[1-9]", "bzip2", "bz2"), (rb"\xfd7zXZ\x00", "xz", "lzma"),
     (rb"\x28\xb5\x2f\xfd", "zstd", ""), (rb"PK\x03\x04", "a zip archive", ""),
 )
 
 
-def packed(front: bytes, is_file: bool) -> str:
-    """Returns the kind of archive that begins with these bytes, and how to open or unpack it, or an empty text for
-    other data."""
+def packed(front: bytes) -> str:
+    """Returns the kind of archive that begins with these bytes, and how to unpack it, or an empty text for other
+    data."""
     for pattern, name, module in _PACKED:
         if re.match(pattern, front):
-            call = f"open it with {module}.open" if is_file else f"unpack it with {module}.decompress"
-            return f"{name}: {call if module else 'unpack it'} first"
+            return f"{name}: unpack it {f'with {module}.decompress ' if module else ''}first"
     return ""
 
 
@@ -91,6 +90,58 @@ _OF_TEXT: Dict[int, str] = {
 def hint_of_text(code: int, text: str) -> str:
     """Returns what is wanted in place of a text with this fault, or an empty text for the fault of a good text."""
     return f"{_OF_TEXT[code]}, not {shown(text)}" if code in _OF_TEXT else ""
+
+
+# The hint for a fault that no value explains. web/squitter_values.js has the same words.
+_OF_CODE: Dict[int, str] = {
+    Code.NOT_DF17: "only extended squitters (DF17) are read; skip other frames",
+    Code.PARITY: "the frame is damaged; skip it",
+    Code.NOT_POSITION: "the message is no position; only kinds AIR and GROUND are",
+    Code.OTHER_ADDRESS: "give two frames of one aircraft",
+    Code.OTHER_KIND: "give two airborne or two surface positions",
+    Code.SAME_PARITY: "give an even and an odd frame",
+    Code.NO_SITE: "give the receiver position as the site",
+    Code.OUT_OF_RANGE: "use newer frames, or a nearer reference",
+    Code.ZONE_COUNTS: "the frames lie on two sides of a zone border; use newer ones",
+    Code.MOMENT_BACK: "timestamps must not decrease; sort the frames first, as an Order does",
+    Code.TABLE_FULL: "raise the limit",
+    Code.NO_LIMIT: "a limit is at least 1",
+    Code.NO_TRACKER: "it is closed",
+    Code.NO_ADDRESS: "an index is below the number of aircraft that are present",
+    Code.BAD_ENTRY: "the state was saved with other settings, or is damaged",
+}
+
+
+def hint_of_code(code: int) -> str:
+    """Returns what to do after a fault that no value explains, or an empty text for other faults."""
+    return _OF_CODE.get(code, "")
+
+
+# What a source without frames is, in the words of `squitter feed`, and what a file without times is.
+STRANGERS: Dict[Stranger, str] = {
+    Stranger.SBS: "the input is SBS (BaseStation) text, which has no frames: read port 30005 or 30002",
+    Stranger.TAR: "the input is a tar archive: try tar -xOf FILE | squitter feed",
+    Stranger.PACKED: "the input is compressed: try gzip -dc FILE | squitter feed",
+    Stranger.UTF16: "the input is UTF-16: try iconv -f UTF-16 -t UTF-8 FILE | squitter feed",
+    Stranger.JSON: "the input is lines of JSON, which have no frames",
+    Stranger.NO_FRAME: "no frame is in the first 16384 bytes: try --format=beast, avr, csv or log",
+}
+ALL_AT_0 = "all frames of this file have the timestamp 0, as without times: old ones pair with new"
+
+
+def hint_of_source(stranger: Optional[Stranger], counts: Any, front: bytes) -> str:
+    """Returns why a source that begins with these bytes has no squitters, and what to do."""
+    if not front:
+        return "it is empty"
+    archive = packed(front)
+    if stranger is Stranger.PACKED and archive:
+        return f"the input is {archive}"
+    if stranger is not None:
+        return STRANGERS[stranger].replace("--format", "format")
+    told = [("of other downlink formats", sum(counts.formats)), ("of Mode A/C", counts.mode_ac),
+            ("multilaterated", counts.multilaterated), ("receiver ids", counts.receiver_ids),
+            ("set aside", counts.aside), ("damaged", counts.damaged)]
+    return ", ".join(["no extended squitter (DF17) is in it", *(f"{count} {what}" for what, count in told if count)])
 
 
 # ---- heads ----

@@ -29,6 +29,7 @@ class Counts(NamedTuple):
     written: int
     mode_ac: int
     multilaterated: int
+    receiver_ids: int
     damaged: int
     aside: int
     formats: Tuple[int, ...]
@@ -58,12 +59,13 @@ class Feed(_Lent):
         *, late: int = 0, all_formats: bool = False, by_arrival: bool = False,
     ) -> None:
         """Creates a feed at the start of a source. The format is one of :class:`FeedFormat`, or its name in lower case
-        ("beast", "avr", "csv", "log", "auto"). If it is AUTO, the first bytes show it: three Beast messages in a row,
-        or a line with a frame. A gap above `leap` milliseconds is a jump of the source's clock. Arrival times
-        count only for a live source. A timestamp may be before the latest one by `late` milliseconds; with 0,
-        timestamps never go back. With `all_formats`, frames of all downlink formats are written, those below 16 as
-        seven bytes and seven zeros; otherwise those of format 17. With `by_arrival`, the receiver's clock is ignored.
-        Raises ValueError for any other format, and unless `leap` and `late` are whole numbers below 2**64."""
+        ("beast", "avr", "csv", "log", "auto"). If it is AUTO, the first bytes show it: the start of a Beast message, or
+        a line with a frame. The whole source is then read in that format, from its first byte on. A gap above `leap`
+        milliseconds is a jump of the source's clock. Arrival times count only for a live source. A timestamp may be
+        before the latest one by `late` milliseconds; with 0, timestamps never go back. With `all_formats`, frames of
+        all downlink formats are written, those below 16 as seven bytes and seven zeros; otherwise those of format 17.
+        With `by_arrival`, the receiver's clock is ignored. Raises ValueError for any other format, and unless `leap`
+        and `late` are whole numbers below 2**64."""
         form = _form(FeedFormat, format)
         leap = whole(leap, 64, "a leap is a whole number of milliseconds from 0")
         late = whole(late, 64, "late is a whole number of milliseconds from 0")
@@ -120,8 +122,8 @@ class Feed(_Lent):
 
     @property
     def stranger(self) -> Optional[Stranger]:
-        """What the source is if it holds no frames of a known format, or None. Its first bytes or lines tell, or
-        :meth:`finish`."""
+        """What the source is if it holds no frames of a known format, or None. It is known once 16,384 bytes
+        show no format, or after :meth:`finish`."""
         number = self._source()
         return Stranger(number) if number > FeedFormat.AUTO else None
 
@@ -140,7 +142,8 @@ class Feed(_Lent):
             out = _Counts()
             _done(_lib.squitter_feed_counts(ctypes.byref(self._slot), ctypes.byref(out)))
         return Counts(
-            out.found, out.written, out.mode_ac, out.multilaterated, out.damaged, out.aside, tuple(out.formats),
+            out.found, out.written, out.mode_ac, out.multilaterated, out.receiver_ids, out.damaged, out.aside,
+            tuple(out.formats),
         )
 
     def _texts(self, data: Optional[bytes], arrival: int) -> bytes:

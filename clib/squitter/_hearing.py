@@ -338,7 +338,8 @@ class Log(_Listener):
             return self._texts("log_take_text", _bytes(piece))
 
     def finish(self) -> bytes:
-        """Returns the output for the last line, if it has no line feed."""
+        """Returns the output for the last line, if it has no line feed. It ends the line and not the log: what is taken
+        next begins a new line, with the next number."""
         with self._lock:
             self._look_open()
             return self._texts("log_finish_text", None)

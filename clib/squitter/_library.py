@@ -9,7 +9,6 @@ import operator
 import os
 import struct
 import sys
-from ctypes.util import find_library
 from fractions import Fraction
 from typing import Any, Optional, Sequence, Tuple, Type, Union
 
@@ -33,6 +32,13 @@ _LIBDIR = ""
 _SO = "libsquitter.so.0"
 
 
+def _found() -> Optional[str]:
+    """Returns the library that the system knows. What looks for it loads slowly, and is mostly not needed."""
+    from ctypes.util import find_library
+
+    return find_library("squitter")
+
+
 def _load() -> ctypes.CDLL:
     """The library: LIBSQUITTER's, that in this package or beside it, the one installed with it, or the system's. Raises
     OSError if there is none."""
@@ -42,7 +48,7 @@ def _load() -> ctypes.CDLL:
     installed = next((place for place in places if os.path.exists(place)), None)
     named = os.environ.get("LIBSQUITTER")
     try:
-        library = ctypes.CDLL(named or installed or find_library("squitter") or _SO)
+        library = ctypes.CDLL(named or installed or _found() or _SO)
     except OSError as error:
         if named:
             wanted = f"LIBSQUITTER has to be the path of {_SO}, or unset: {error}"
@@ -155,7 +161,7 @@ def _binary(name: str, source: Union[bytes, bytearray, memoryview]) -> memoryvie
         raise ValueError(f"{wanted}, not hexadecimal digits: {view[:32].tobytes().decode('ascii')!r}; "
                          "a frame text is a str")
     if view.nbytes % 14:
-        archive = packed(view[:8].tobytes(), False)
+        archive = packed(view[:8].tobytes())
         raise ValueError(f"{wanted}, not {view.nbytes} bytes{archive and ' of ' + archive}")
     return view
 

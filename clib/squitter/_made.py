@@ -116,7 +116,7 @@ class FeedFormat(enum.IntEnum):
 
     BEAST = 0  # Beast binary
     AVR = 1  # AVR text, with clocks or without
-    CSV = 2  # CSV: columns `time` (s) and `rawmsg`; if no header names them, columns 1 and 3
+    CSV = 2  # CSV: columns `time`, `mintime` or `timestamp` (s), and `rawmsg`; without a header 1 and 3
     LOG = 3  # a log: a timestamp (ms), a space and a frame on each line
     AUTO = 4  # the first bytes show the format; not known yet
 
@@ -258,8 +258,8 @@ class _Order(ctypes.Structure):
 class _Counts(ctypes.Structure):
     _fields_ = [
         ("found", ctypes.c_uint64), ("written", ctypes.c_uint64), ("mode_ac", ctypes.c_uint64),
-        ("multilaterated", ctypes.c_uint64), ("damaged", ctypes.c_uint64), ("aside", ctypes.c_uint64),
-        ("formats", ctypes.c_uint64 * 25),
+        ("multilaterated", ctypes.c_uint64), ("receiver_ids", ctypes.c_uint64), ("damaged", ctypes.c_uint64),
+        ("aside", ctypes.c_uint64), ("formats", ctypes.c_uint64 * 25),
     ]
 
 

@@ -2,17 +2,21 @@
 
 from __future__ import annotations
 
+import bz2
 import io
+import lzma
 import os
 import re
-from typing import Any, Optional, Tuple, Union
+import warnings
+import zlib
+from typing import Any, Callable, Dict, Optional, Tuple, Union
 
 import numpy as np
 import numpy.typing as npt
 
 import squitter
 from squitter import FeedFormat
-from squitter._errors import packed, shown
+from squitter._errors import ALL_AT_0, hint_of_source, shown
 
 Source = Union[str, "os.PathLike[str]", Any]
 """A file, by its name or open for bytes, or bytes."""
@@ -22,58 +26,53 @@ Squitters = Tuple[npt.NDArray[np.uint64], npt.NDArray[np.uint8]]
 
 _FIRST = 1 << 14  # bytes by which the library finds the format of a source
 _PIECE = 1 << 20  # bytes that a feed takes at once
-_WITH_CLOCK = (FeedFormat.BEAST, FeedFormat.AVR, "beast", "avr")
-_OTHERS = (
-    (rb"\s*[*@:][0-9A-Fa-f]{14,40};\s*$", "AVR, frames without times"),
-    (rb"\s*\x1a[1-4]", "Beast, without three messages in a row"),
-    (rb"[^\n]*,", "CSV, without a time in seconds and a rawmsg in each row"),
-)
+_PACKED = 1 << 16  # bytes that are unpacked at once
+
+# Archives by their first bytes, and what unpacks them.
+_ARCHIVES: Dict[bytes, Tuple[str, Callable[[], Any]]] = {
+    b"\x1f\x8b": ("gzip", lambda: zlib.decompressobj(16 + zlib.MAX_WBITS)),
+    b"BZh": ("bzip2", bz2.BZ2Decompressor),
+    b"\xfd7zXZ\x00": ("xz", lzma.LZMADecompressor),
+}
 
 
 def feed(source: Source, format: Union[FeedFormat, str, None] = None, leap: int = 600_000) -> Squitters:
     """Returns the timestamps (ms) and the frames, (n, 14) uint8, of a receiver's recording, for :func:`track`.
 
-    The source is a file, by its name or open for bytes, or bytes. It is Beast, AVR with a clock, CSV with the columns
-    time and rawmsg, or a log; without a `format` (:class:`squitter.FeedFormat` or its name) its first bytes decide. A
-    gap above `leap` milliseconds is a jump of the receiver's clock. Raises ValueError if the source shows no format or
-    is an archive, or if its frames have no times.
+    The source is a file or a pipe, by its name or open for bytes, or bytes. It is what ``squitter feed`` reads: Beast,
+    AVR, CSV with the columns time and rawmsg, or a log, also packed by gzip, bzip2 or xz. Without a `format`
+    (:class:`squitter.FeedFormat` or its name) its first bytes decide. A gap above `leap` milliseconds is a jump of the
+    receiver's clock. Frames without times get the timestamp 0, and a warning says so if there are several. Raises
+    ValueError if the source has no squitter, or if an archive is damaged or ends early.
     """
-    data = bytes_of(source)
-    form = _format_of(data) if format is None else format
-    if form is None:
-        refuse_other(data, source)
-        where = f" in its first {_FIRST} bytes" if len(data) else ": it is empty"
-        raise ValueError(f"{name_of(source)} has no frame of Beast, AVR, CSV or a log{where}")
-    # Without a format, the library finds it once more: damage before the first good messages counts as in the program.
-    squitters = _squitters(data, FeedFormat.AUTO if format is None else form, leap)
-    if not len(squitters[0]):
-        refuse_packed(bytes(data[:8]), source)
-    if form in _WITH_CLOCK and not _are_timed(squitters):
-        raise _untimed(source)
+    squitters, fault = _squitters(unpacked(bytes_of(source), source), format or FeedFormat.AUTO, leap)
+    if fault:
+        raise ValueError(f"{name_of(source)}: {fault}")
+    warn_of_times(squitters, 2)
     return squitters
 
 
 def squitters_of(data: npt.NDArray[np.uint8], source: Source) -> Optional[Squitters]:
-    """Returns the squitters of a recording of Beast, AVR with a clock, or CSV, or None for any other data, such as a
-    log with a line that lacks its time. Raises ValueError for Beast without times."""
+    """Returns the squitters of a recording of Beast, AVR or CSV, or None for any other data, such as a log. Raises
+    ValueError if there are none."""
     form = _format_of(data)
     if form is None or form == FeedFormat.LOG:
         return None
-    squitters = _squitters(data, FeedFormat.AUTO, 600_000)
-    if form not in _WITH_CLOCK or squitters[0].any():
-        return squitters
-    if form == FeedFormat.BEAST:
-        raise _untimed(source)
-    return None
+    squitters, fault = _squitters(data, form, 600_000)
+    if fault:
+        raise ValueError(f"{name_of(source)}: {fault}")
+    return squitters
 
 
 def _format_of(data: npt.NDArray[np.uint8]) -> Optional[FeedFormat]:
+    """Returns the format that the first bytes show. A short source may end without a line feed."""
     with squitter.Feed() as source:
-        source.take_frames(data[:_FIRST].tobytes())
+        source.take_frames(data[:_FIRST].tobytes() + b"\n" * (len(data) < _FIRST))
         return source.format
 
 
-def _squitters(data: npt.NDArray[np.uint8], form: Union[FeedFormat, str], leap: int) -> Squitters:
+def _squitters(data: npt.NDArray[np.uint8], form: Union[FeedFormat, str], leap: int) -> Tuple[Squitters, str]:
+    """Returns the squitters of a recording, and why there are none, or an empty text."""
     moments, frames = [], []
     with squitter.Feed(form, leap) as source:
         for at in range(0, len(data), _PIECE):
@@ -81,17 +80,23 @@ def _squitters(data: npt.NDArray[np.uint8], form: Union[FeedFormat, str], leap: 
             moments.append(np.frombuffer(times, np.uint64) if times else np.zeros(0, np.uint64))
             frames.append(some)
         times, some = source.finish_frames()
+        stranger, counts = source.stranger, source.counts
     moments.append(np.array(times, np.uint64))
-    return np.concatenate(moments), np.frombuffer(b"".join([*frames, some]), np.uint8).reshape(-1, 14)
+    squitters = np.concatenate(moments), np.frombuffer(b"".join([*frames, some]), np.uint8).reshape(-1, 14)
+    return squitters, "" if counts.written else hint_of_source(stranger, counts, data[:8].tobytes())
 
 
-def _are_timed(squitters: Squitters) -> bool:
-    """Returns whether frames have times. If none has, all timestamps are 0; a single frame needs no time."""
-    return len(squitters[0]) < 2 or bool(squitters[0].any())
+def refuse_none(data: npt.NDArray[np.uint8], source: Source) -> None:
+    """Raises ValueError if data without a good line show no format."""
+    if _format_of(data) is None:
+        raise ValueError(f"{name_of(source)}: {_squitters(data, FeedFormat.AUTO, 0)[1]}")
 
 
-def _untimed(source: Source) -> ValueError:
-    return ValueError(f"{name_of(source)} has no times, and positions need them")
+def warn_of_times(squitters: Squitters, above: int) -> None:
+    """Warns the caller, so many calls above, of several frames without times, which all have the timestamp 0. A single
+    frame needs no time."""
+    if len(squitters[0]) > 1 and not squitters[0].any():
+        warnings.warn(ALL_AT_0, stacklevel=above + 1)
 
 
 def bytes_of(source: Source) -> npt.NDArray[np.uint8]:
@@ -130,46 +135,41 @@ def name_of(source: Source) -> str:
     return str(name) if isinstance(name, (str, os.PathLike)) else "this"
 
 
-def refuse_packed(front: bytes, source: Source) -> None:
-    """Raises ValueError if these are the first bytes of an archive, and says how to open it."""
-    archive = packed(front, not isinstance(source, (bytes, bytearray, memoryview)))
-    if archive:
-        raise ValueError(f"{name_of(source)} is {archive}")
-
-
-def refuse_other(data: npt.NDArray[np.uint8], source: Source) -> None:
-    """Raises ValueError if data without a good line begin as another format does."""
-    front = bytes(data[:200])
-    refuse_packed(front, source)
-    for pattern, what in _OTHERS:
-        if re.match(pattern, front, re.M):
-            raise ValueError(
-                f"{name_of(source)} is {what}, and a log has lines of a time and a frame, as squitter-feed writes")
+def unpacked(data: npt.NDArray[np.uint8], source: Source) -> npt.NDArray[np.uint8]:
+    """Returns the contents of an archive: all its members, which zeros may follow. Returns other data as they are.
+    Raises ValueError if an archive is damaged or ends early."""
+    parts, at, name = [], 0, ""
+    while at < len(data):
+        front = data[at:at + 6].tobytes()
+        kind, begin = next((of for magic, of in _ARCHIVES.items() if front.startswith(magic)), ("", None))
+        if begin is None:
+            if not name:
+                return data
+            raise ValueError(f"{name_of(source)}: the {name} archive is damaged at its end")
+        name, inner = kind, begin()
+        while not inner.eof:
+            piece = data[at:at + _PACKED].tobytes()
+            if not piece:
+                raise ValueError(f"{name_of(source)}: the {name} archive ends early")
+            try:
+                parts.append(inner.decompress(piece))
+            except (zlib.error, lzma.LZMAError, OSError):
+                raise ValueError(f"{name_of(source)}: the {name} archive is damaged") from None
+            at += len(piece)
+        at -= len(inner.unused_data)
+        while at < len(data) and data[at] == 0:
+            some = data[at:at + _PACKED]
+            at += int(np.argmax(some != 0)) or len(some)
+    return np.frombuffer(b"".join(parts), np.uint8) if name else data
 
 
 def refuse_file(wanted: str, source: Any) -> None:
-    """Raises ValueError for a file or its name in place of an array, and for a single text. `wanted` begins the error.
-    If the file is an archive, the error says how to open it."""
+    """Raises ValueError for a file or its name in place of an array, and for a single text. `wanted` begins the
+    error."""
     is_name = isinstance(source, (str, os.PathLike))
     if not is_name and not hasattr(source, "read"):
         return
     if isinstance(source, str) and not os.path.exists(source):
         raise ValueError(f"{wanted}, not a single text: {shown(source)}")
-    refuse_packed(_front_of(source, is_name), source)
     of = repr(name_of(source)) if is_name or name_of(source) != "this" else "file"
     raise ValueError(f"{wanted}, not a file: batch.feed reads it, as in track(*batch.feed({of}))")
-
-
-def _front_of(source: Any, is_name: bool) -> bytes:
-    """Returns the first bytes of a file, by its name or open. An open file keeps its position. Returns no bytes if they
-    cannot be read without waiting, such as those of a pipe."""
-    try:
-        if is_name:
-            with open(source if os.path.isfile(source) else os.devnull, "rb") as file:
-                return file.read(8)
-        at = source.tell()
-        front = source.read(8)
-        source.seek(at)
-    except (OSError, ValueError, AttributeError):
-        return b""
-    return front if isinstance(front, bytes) else b""

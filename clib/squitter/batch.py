@@ -30,7 +30,7 @@ import ctypes
 import operator
 from array import array as _Items
 from mmap import mmap
-from typing import Any, Dict, Iterable, NamedTuple, Optional, Sequence, SupportsIndex, Tuple, Type
+from typing import Any, Dict, Iterable, List, NamedTuple, Optional, Sequence, SupportsIndex, Tuple, Type
 
 from squitter._errors import missing, shown
 
@@ -55,6 +55,12 @@ __all__ = [
     "ANSWER", "COLUMNS", "DEGREES", "FAULT", "FIELDS", "POSITION", "TRACKED", "Tracker", "columns", "csv_rows",
     "dataframe", "feed", "fractions", "lines", "local", "pair", "pair_at", "position_e7", "positions", "read", "track",
 ]
+
+
+def __dir__() -> List[str]:
+    """Returns the public names, which a prompt completes."""
+    return sorted({*__all__, *(name for name in globals() if name.startswith("__"))})
+
 
 _ADDRESSES = 1 << 24  # the number of ICAO addresses
 _LEAST_LIMIT = 1000  # addresses that a tracker has room for at first

@@ -9,8 +9,9 @@ import tempfile
 
 HERE = os.path.dirname(os.path.abspath(__file__))
 PACKAGE = os.path.join(os.path.dirname(HERE), "squitter")
-TESTS = [["test_squitter.py"], ["test_quick.py"], ["test_results.py"], ["test_errors.py"], ["test_feed.py"],
-         ["test_order.py"], ["test_source.py"], ["test_batch.py", "2000"], ["test_frames.py"]]
+TESTS = [["test_squitter.py"], ["test_hearing.py"], ["test_quick.py"], ["test_results.py"], ["test_errors.py"],
+         ["test_feed.py"], ["test_order.py"], ["test_source.py"], ["test_batch.py", "2000"], ["test_arrays.py"],
+         ["test_frames.py"]]
 ENOUGH = 95
 
 

@@ -341,6 +341,8 @@ static void try_saving(void) {
 
 /* Tests the calls of a feed; tests/feed.c tests them with each format, in pieces and in other blocks. */
 static void try_a_feed(void) {
+  _Alignas(16) static unsigned char feed_memory[20480];
+  static const squitter_block feed_block = {sizeof feed_memory, feed_memory};
   static const char log[] = "400 8D40621D58C382D690C8AC2863A7";
   squitter_feed feed = {0, 0};
   squitter_done done;
@@ -352,10 +354,11 @@ static void try_a_feed(void) {
   filled(&done, sizeof done), filled(&counts, sizeof counts), filled(frame, sizeof frame);
   IS(is_fault(squitter_feed_take(&feed, log, 32, 0, &moment, 1, &frame, 1, &done), SQUITTER_NO_TRACKER, 0));
   IS(is_fault(squitter_feed_counts(&feed, &counts), SQUITTER_NO_TRACKER, 0));
-  IS(is_fault(squitter_feed_new(&feed, block, 5, 10000, 0, 0), SQUITTER_BAD_FORMAT, 0));
+  IS(is_fault(squitter_feed_new(&feed, feed_block, 5, 10000, 0, 0), SQUITTER_BAD_FORMAT, 0));
   IS(is_fault(squitter_feed_format(&feed, &format), SQUITTER_NO_TRACKER, 0) && format == 9);
   IS(is_filled(&done, sizeof done) && is_filled(&counts, sizeof counts) && is_filled(frame, sizeof frame));
-  IS(squitter_feed_size() <= block.size && is_ok(squitter_feed_new(&feed, block, SQUITTER_FEED_LOG, 10000, 0, 0)));
+  IS(squitter_feed_size() == feed_block.size);
+  IS(is_ok(squitter_feed_new(&feed, feed_block, SQUITTER_FEED_LOG, 10000, 0, 0)));
   IS(is_ok(squitter_feed_format(&feed, &format)) && format == SQUITTER_FEED_LOG);
   IS(is_ok(squitter_feed_take(&feed, log, 32, 0, &moment, 1, &frame, 1, &done)) && done.taken == 32);
   IS(done.written == 0 && moment == 9);

@@ -30,7 +30,7 @@ typedef struct source {
 } source;
 
 static source sources[FORMATS];
-_Alignas(32) static unsigned char block_bytes[8192 + 2 * GUARD];
+_Alignas(32) static unsigned char block_bytes[32768 + 2 * GUARD];
 
 /* ---- sources ---- */
 
@@ -117,7 +117,7 @@ static bool are_counts(squitter_feed *feed, const source *of) {
   if (squitter_feed_counts(feed, &counts).code) return false;
   for (int i = 0; i < 25; i++) others += counts.formats[i];
   return counts.written == TOLD && counts.mode_ac == of->mode_ac && counts.formats[11] == of->short_frames &&
-         others == of->short_frames && counts.damaged == of->damaged && !counts.aside && !counts.multilaterated &&
+         others == of->short_frames && counts.damaged == of->damaged && !counts.aside && !counts.multilaterated && !counts.receiver_ids &&
          counts.found == TOLD + of->mode_ac + of->short_frames + of->damaged;
 }
 
@@ -400,18 +400,18 @@ static void try_formats(void) {
   }
   IS(format_of("*2040;", 5, 0) == SQUITTER_FEED_AUTO && format_of("*2040;", 6, 0) == SQUITTER_FEED_AVR);
   IS(format_of("7 *2040;\n", 8, 0) == SQUITTER_FEED_AUTO && format_of("7 *2040;\n", 9, 0) == SQUITTER_FEED_LOG);
-  IS(format_of("MSG,3,1,1,4840D6\n", 16, 0) == SQUITTER_FEED_AUTO);
-  IS(format_of("MSG,3,1,1,4840D6\n", 17, 0) == SQUITTER_FEED_SBS);
-  IS(format_of("\x1f\x8b\x08", 3, 0) == SQUITTER_FEED_PACKED);
-  IS(format_of("\xff\xfe" "7\0", 4, 0) == SQUITTER_FEED_UTF16);
-  IS(format_of("{}\n", 3, 0) == SQUITTER_FEED_JSON && format_of("2040\n", 5, 0) == SQUITTER_FEED_AUTO);
+  IS(format_of("MSG,3,1,1,4840D6\n", 17, 0) == SQUITTER_FEED_AUTO);
+  IS(format_of("MSG,3,1,1,4840D6\n", 17, 1) == SQUITTER_FEED_SBS);
+  IS(format_of("\x1f\x8b\x08", 3, 1) == SQUITTER_FEED_PACKED);
+  IS(format_of("\xff\xfe" "7\0", 4, 1) == SQUITTER_FEED_UTF16);
+  IS(format_of("{}\n", 3, 1) == SQUITTER_FEED_JSON && format_of("2040\n", 5, 0) == SQUITTER_FEED_AUTO);
   IS(format_of("2040\n", 5, 1) == SQUITTER_FEED_NO_FRAME);
 }
 
 static void try_none(squitter_feed *feed) {
   squitter_done done = {7, 7};
   uint32_t number = 7;
-  squitter_counts counts = {7, 0, 0, 0, 0, 0, {0}};
+  squitter_counts counts = {7, 0, 0, 0, 0, 0, 0, {0}};
   uint64_t moments[1] = {7};
   frame_bytes frames[1] = {{7}};
   char text[50] = "7";

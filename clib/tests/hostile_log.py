@@ -1,7 +1,8 @@
 #!/usr/bin/env python3
-"""hostile_log.py: prints a log that readers stumble over, the same each time: carriage returns, empty and long lines,
-bytes that are no text, moments at their limits and back, more addresses than a table holds, and no line feed at the
-end."""
+"""hostile_log.py [KIND]: prints a log that readers stumble over, the same each time. KIND is by default `oddities`:
+carriage returns, empty and long lines, bytes that are no text, moments at their limits and back, more addresses than a
+table holds, and no line feed at the end. LOGS has the other kinds; --kinds prints their names."""
+import argparse
 import random
 import sys
 from typing import Iterator
@@ -43,10 +44,38 @@ def oddities(moment: int) -> Iterator[bytes]:
     yield from (b"%d %s" % (moment - 1, good), b"18446744073709551615 " + good, b"%d %s" % (moment, good))
 
 
+def oddities_of_all() -> bytes:
+    """Crowds, and then all oddities."""
+    return b"\n".join([*many_aircraft(random.Random(7)), *oddities(1_000_000)])
+
+
+GOOD = b"5 8D40621D58C382D690C8AC2863A7"
+LOGS = {
+    "oddities": oddities_of_all,
+    "empty": lambda: b"",
+    "empty_lines": lambda: b"\n" * 200_000,
+    # The answers are longer than their lines, so a piece has more of them than an output buffer holds.
+    "short_lines": lambda: b"x\n" * 100_000,
+    "short_line": lambda: b"x",
+    "one_line": lambda: GOOD + b"\n",
+    "no_line_feed": lambda: GOOD,
+    # Exactly one piece of the examples, and a piece that ends in the middle of a line.
+    "whole_piece": lambda: (GOOD + b"\n") * 2114 + b"x\n",
+    "cut_line": lambda: (GOOD + b"\n") * 2114 + GOOD + b"\n",
+    "long_line": lambda: b"x" * 200_000,
+    "zeros": lambda: bytes(200_000),
+}
+
+
 def main() -> None:
-    lines = [*many_aircraft(random.Random(7))]
-    lines += oddities(1_000_000)
-    sys.stdout.buffer.write(b"\n".join(lines))
+    parser = argparse.ArgumentParser(description=__doc__, formatter_class=argparse.RawDescriptionHelpFormatter)
+    parser.add_argument("kind", nargs="?", choices=LOGS, default="oddities", metavar="KIND")
+    parser.add_argument("--kinds", action="store_true", help="print the names of all kinds")
+    words = parser.parse_args()
+    if words.kinds:
+        print(*LOGS, sep="\n")
+    else:
+        sys.stdout.buffer.write(LOGS[words.kind]())
 
 
 if __name__ == "__main__":

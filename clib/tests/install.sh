@@ -1,6 +1,7 @@
 #!/bin/sh
 # install.sh PYTHON: `make install` below a folder with spaces in its name: the C example with what pkg-config says, and
-# the Python package; and `make uninstall`, which leaves no file and touches no neighbour. PYTHON runs the package.
+# the Python package. A second installation from the same tree has its own folders, also for the library that Python
+# loads (PYTHON_LIBDIR). `make uninstall` leaves no file and touches no neighbour. PYTHON runs the package.
 set -eu
 python=$1
 clib=$(cd "$(dirname "$0")/.." && pwd)
@@ -26,6 +27,30 @@ fi
 told=$(cd / && PYTHONPATH="$prefix/modules" "$python" -c 'import squitter; print(squitter.version())')
 test "$told" = "$(cat "$clib/../VERSION")"
 test -s "$prefix/share/man/man3/squitter_pair.3"
+# loaded MODULES: the library that the package in this folder loads
+loaded() { (cd / && PYTHONPATH="$1" "$python" -c 'from squitter import _library; print(_library._lib._name)'); }
+test "$(loaded "$prefix/modules")" = "$prefix/lib/libsquitter.so.0"
+second=$work/second libdir=$work/second/own
+make -s -C "$work/tree/clib" install PREFIX="$second" LIBDIR="$libdir" PYTHON="$python" PYTHONDIR="$second/modules" \
+  PYTHON_LIBDIR="$libdir" INCLUDEDIR="$second/headers" MANDIR="$second/pages" > "$work/said"
+test "$(loaded "$second/modules")" = "$libdir/libsquitter.so.0"
+test "$(loaded "$prefix/modules")" = "$prefix/lib/libsquitter.so.0"
+grep -q "^prefix=$second\$" "$libdir/pkgconfig/squitter.pc"
+grep -q "$second/headers" "$libdir/pkgconfig/squitter.pc"
+grep -q "$libdir" "$libdir/pkgconfig/squitter.pc"
+test -s "$second/headers/squitter.h"
+test -s "$second/pages/man3/squitter_pair.3"
+grep -q "^prefix=$prefix\$" "$prefix/lib/pkgconfig/squitter.pc"
+# Python may load the library from another folder than the one where C finds it.
+mkdir "$work/elsewhere"
+cp "$libdir/libsquitter.so.0" "$work/elsewhere/"
+make -s -C "$work/tree/clib" install PREFIX="$second" LIBDIR="$libdir" PYTHON="$python" PYTHONDIR="$second/modules" \
+  PYTHON_LIBDIR="$work/elsewhere" INCLUDEDIR="$second/headers" MANDIR="$second/pages" > "$work/said"
+test "$(loaded "$second/modules")" = "$work/elsewhere/libsquitter.so.0"
+make -s -C "$work/tree/clib" uninstall PREFIX="$second" LIBDIR="$libdir" PYTHON="$python" PYTHONDIR="$second/modules" \
+  INCLUDEDIR="$second/headers" MANDIR="$second/pages"
+test -z "$(find "$second" -type f -o -type l)"
+test "$(loaded "$prefix/modules")" = "$prefix/lib/libsquitter.so.0"
 install_by uninstall
 test -z "$(find "$prefix" -type f -o -type l)"
 test "$(cat "$neighbour")" = kept

@@ -111,7 +111,7 @@ PYTHON
 "$program" track < "$clib/../examples/flights.log" | cmp - ours
 
 if command -v mypy > /dev/null; then
-  printf 'import squitter\nfeet: str = squitter.read(b"").feet\nfeet2: int = squitter.read("").feet\n' > typed.py
+  printf 'import squitter\ntext: str = squitter.read(b"").address\nnumber: int = squitter.read("").address\n' > typed.py
   mypy --strict --python-executable "$own" --cache-dir "$work/cache" typed.py > typed.log && exit 1
   grep -q 'typed.py:2: error: .*"int", variable has type "str"' typed.log
   test "$(grep -c error: typed.log)" = 1

@@ -283,11 +283,16 @@ def check_page():
 
 
 def check_tests():
-    """The tests: each file of them is named by the Makefile, and each method of a test case is a test, or is used."""
+    """The tests: each file of them is named by the Makefile, or by a script for a shell that the Makefile names. Each
+    method of a test case is a test, or is used."""
     with open(os.path.join(CLIB, "Makefile"), encoding="utf-8") as file:
         make = file.read()
+    scripts = ""
+    for name in re.findall(r"tests/(\w+\.sh)", make):
+        with open(os.path.join(HERE, name), encoding="utf-8") as file:
+            scripts += file.read()
     for name in sorted(os.listdir(HERE)):
-        if not name.startswith((".", "__")) and f"tests/{name}" not in make:
+        if not name.startswith((".", "__")) and f"tests/{name}" not in make + scripts:
             differ(f"the Makefile does not run tests/{name}")
         if name.startswith("test_"):
             with open(os.path.join(HERE, name), encoding="utf-8") as file:

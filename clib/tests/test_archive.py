@@ -30,6 +30,10 @@ PROGRAM = os.environ.get("PROGRAM") or subprocess.run(
     [os.path.join(TOP, "dist", "program")], check=True, stdout=subprocess.PIPE, text=True).stdout.strip()
 ARCHIVE = os.path.join(TOP, "examples/archive.py")
 HOURS, LINES = 12, 6000
+# Hours of an archive without a good line: an empty file, one with a row of names, and one with refused lines alone. In
+# the hour after each, the first moments are before the last one of the hours before.
+WITHOUT_LINES = {4: [], 6: [b"time,icao24,rawmsg"], 8: [b"time,icao24,rawmsg", b"x,,", b"5,,8D"]}
+OF_LOG = {4: [], 6: [], 8: [b"x ", b"5000 8D"]}
 HEADER = ",".join(batch.COLUMNS).encode()
 ENVIRONMENT = dict(os.environ, PYTHONPATH=os.path.abspath(os.path.join(HERE, "..")))
 if "LIBSQUITTER" in ENVIRONMENT:
@@ -78,14 +82,17 @@ def archive(folder: str, rng: random.Random) -> Tuple[List[str], bytes]:
     paths, log, moment, made = [], [], 1_480_000_000_000, frames(rng)
     for hour in range(HOURS):
         rows = [] if hour % 3 == 1 else [b"time,icao24,rawmsg"] if hour % 3 else [b"rawmsg,x,Time"]
-        for number in range(LINES):
+        if hour in WITHOUT_LINES:
+            rows = WITHOUT_LINES[hour]
+            log += OF_LOG[hour]
+        for number in range(0 if hour in WITHOUT_LINES else LINES):
             moment += rng.choice([0, 3, 40])
             at = moment - (rng.choice([0] * 9 + [5, 70_000]) if number > 5 else 9000 * (hour % 2))
             text = rng.choice(made).encode()
             log.append(b"%d %s" % (at, text))
             seconds = b"%d.%03d" % divmod(at, 1000)
             rows.append(b"%s,%s,%s" % ((seconds, text[2:8], text) if hour % 3 else (text, b"", seconds)))
-        if hour % 3:
+        if hour % 3 and hour not in WITHOUT_LINES:
             for row, line in odd_rows(made[0]):
                 rows += [row, b"", b"\r"]
                 log.append(line)

@@ -148,7 +148,7 @@ class OfTheHeader(unittest.TestCase):
             "    this.raw = view.getBigUint64(at, true);", "    this.feet = view.getInt32(at + 20, true);",
             "    this.altitudeForm = view.getUint8(at + 26);", "    return { ...this, raw: String(this.raw) };",
             "  heard: Object.freeze({ position: 0, what: 32, even: 33, odd: 34 }),", '["altitude", 4, 2]',
-            "    formats: Array.from({ length: 25 }, (_, index) => view.getBigUint64(at + 48 + 8 * index, true)),",
+            "    formats: Array.from({ length: 25 }, (_, index) => view.getBigUint64(at + 56 + 8 * index, true)),",
             "  view.setBigInt64(at, value.num, true);\n  view.setBigUint64(at + 8, value.den, true);", "entry: 192,",
         ):
             self.assertIn(part, text)

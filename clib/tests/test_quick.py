@@ -65,7 +65,8 @@ class Quick(unittest.TestCase):
         for code, first, second, text in ((6, 1, 0, "parity 000001"), (6, 2, 0, "parity 000002"),
                                           (6, 1, 0, "parity 000001"), (16, 4, 5, "zone counts 4 5"),
                                           (16, 5, 4, "zone counts 5 4"), (True, 0, 0, "bad wrapping")):
-            self.assertEqual(str(Fault(code, first, second)), text)
+            fault = Fault(code, first, second)
+            self.assertEqual(str(fault), f"{text}: {fault.hint}" if fault.hint else text)
         for numbers in ((6, 1.0), (6, 1, 0.0), (16, 4.0, 5)):
             with self.assertRaises(TypeError):
                 Fault(*numbers)

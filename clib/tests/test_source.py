@@ -1,10 +1,11 @@
 #!/usr/bin/env python3
-"""What receivers record, as arrays and as data frames: each format by a file's name, open, and as bytes; what has no
-times or is no recording. Needs NumPy, and pandas for the data frames."""
+"""What receivers record, as arrays and as data frames: each format by a file's name, open, and as bytes; archives, what
+has no times, and what is no recording. Needs NumPy, and pandas for the data frames."""
 import array
 import bz2
 import gzip
 import io
+import itertools
 import lzma
 import mmap
 import os
@@ -12,6 +13,7 @@ import pathlib
 import sys
 import tempfile
 import unittest
+import warnings
 from typing import Any, Callable, Iterator, Type
 from unittest import mock
 
@@ -28,6 +30,9 @@ try:
 except ImportError:
     pandas = None
 
+ALL_AT_0 = "all frames of this file have the timestamp 0, as without times: old ones pair with new"
+NO_FRAME = "no frame is in the first 16384 bytes: try format=beast, avr, csv or log"
+NO_SQUITTER = "no extended squitter (DF17) is in it"
 UNTIMED = {
     "avr": f"*{ODD};\r\n*{EVEN};\r\n".encode(),
     "beast": b"".join(test_feed.message(b"3", 0, frame) for frame in (ODD, EVEN, ODD)),
@@ -66,6 +71,10 @@ class Recordings(unittest.TestCase):
                     self.same(batch.feed(data))
             if name != "beast":
                 self.same(batch.feed(data.rstrip()))
+        for data, moments in ((f"7 {ODD}".encode(), [7]), (f"1.5,,{ODD}".encode(), [1500]),
+                              (test_feed.message(b"3", 12_000, ODD), [1]),
+                              (test_feed.message(b"3", 12_000, ODD) * 2, [1, 1])):
+            self.assertEqual(batch.feed(data)[0].tolist(), moments)
 
     def test_buffers(self) -> None:
         """Frames in a buffer of any kind: an array of Python, a file that is mapped into memory, and a read-only array
@@ -82,17 +91,15 @@ class Recordings(unittest.TestCase):
                 batch.read(wrong)
 
     def test_damaged_front(self) -> None:
-        """Without a format, three Beast messages in a row begin the recording, as in `squitter feed`. With one, all of
-        its messages are read."""
+        """Messages before damage are read, with a format and without."""
         rows = list(zip(MOMENTS, (EVEN, ODD) * 2))
         first, *rest = (test_feed.message(b"3", 12_000 * moment, frame) for moment, frame in rows)
         for damage in (b"\x1a9", b"x" * 40):
             data = first + damage + b"".join(rest)
-            for form, wanted in ((None, MOMENTS[1:]), ("auto", MOMENTS[1:]), ("beast", MOMENTS)):
-                moments, frames = batch.feed(data, form)
-                self.assertEqual((moments.tolist(), frames.tobytes()), (wanted, FRAMES[14 * (4 - len(wanted)):]))
+            for form in (None, "auto", "beast"):
+                self.same(batch.feed(data, form))
             if pandas is not None:
-                self.assertEqual(batch.dataframe(data)["moment"].tolist(), MOMENTS[1:])
+                self.assertEqual(batch.dataframe(data)["moment"].tolist(), MOMENTS)
 
     def test_leap(self) -> None:
         """Gaps up to the leap are kept, and longer ones are jumps of the clock."""
@@ -101,31 +108,71 @@ class Recordings(unittest.TestCase):
             self.assertEqual(batch.feed(data + b"\n", "avr", leap)[0].tolist(), wanted)
 
     def test_without_times(self) -> None:
-        """Frames without times are refused; a single one, CSV and a log need none besides their own."""
+        """Frames without times get the timestamp 0, as `squitter feed` gives them to a file, and a warning says so. A
+        single one needs no time."""
         for name, data in UNTIMED.items():
-            for source, told in ((data, "this"), (io.BytesIO(data), "this")):
-                for form in (None, name, FeedFormat[name.upper()]):
-                    with self.assertRaisesRegex(ValueError, f"^{told} has no times"):
-                        batch.feed(source, form)
-                    if isinstance(source, io.BytesIO):
-                        source.seek(0)
-            self.path.write_bytes(data)
-            with open(self.path, "rb") as file:
-                for source in (self.path, file):
-                    with self.assertRaisesRegex(ValueError, f"^{self.path} has no times"):
-                        batch.feed(source)
-        self.assertEqual(batch.feed(f"*{ODD};".encode(), "avr")[0].tolist(), [0])
-        self.assertEqual(batch.feed(f"0 {ODD}\n0 {EVEN}\n".encode())[0].tolist(), [0, 0])
-        self.assertEqual(batch.feed(f"0,x,{ODD}\n0,x,{EVEN}\n".encode(), "csv")[0].tolist(), [0, 0])
+            for source in self.given(data):
+                with self.assertWarnsRegex(UserWarning, f"^{ALL_AT_0}$") as warned:
+                    self.assertEqual(set(batch.feed(source)[0].tolist()), {0})
+                self.assertEqual(warned.filename, __file__)
+            for form in (name, FeedFormat[name.upper()]):
+                with self.assertWarnsRegex(UserWarning, ALL_AT_0):
+                    batch.feed(data, form)
+        with warnings.catch_warnings():
+            warnings.simplefilter("error")
+            for one in (f"*{ODD};", f"*{ODD};\n", ODD, f"{ODD}\n", f"@{0:012X}{ODD};\n"):
+                moments, frames = batch.feed(one.encode())
+                self.assertEqual((moments.tolist(), frames.tobytes().hex().upper()), ([0], ODD))
+        for zeros in (f"0 {ODD}\n0 {EVEN}\n", f"0,x,{ODD}\n0,x,{EVEN}\n", f"{ODD}\n{EVEN}"):
+            with self.assertWarnsRegex(UserWarning, ALL_AT_0):
+                self.assertEqual(batch.feed(zeros.encode())[0].tolist(), [0, 0])
+
+    def test_few(self) -> None:
+        """One message or two, also without a line feed at the end, by each form of source and by a pipe."""
+        both = {"avr": f"@{12_000:012X}{ODD};", "csv": f"0.001,x,{ODD}", "log": f"1 {ODD}"}
+        for end in ("\n", ""):
+            for text in both.values():
+                for count in (1, 2):
+                    data = "\n".join([text] * count).encode() + end.encode()
+                    for source in itertools.chain(self.given(data), self.piped(data)):
+                        moments, frames = batch.feed(source)
+                        self.assertEqual(moments.tolist(), [1] * count)
+                        self.assertEqual(frames.tobytes(), bytes.fromhex(ODD) * count)
+
+    def piped(self, data: bytes) -> Iterator[Any]:
+        """A pipe that holds the data, by its name and open."""
+        for is_named in (True, False):
+            reader, writer = os.pipe()
+            os.write(writer, data)
+            os.close(writer)
+            with open(reader, "rb") as pipe:
+                yield f"/dev/fd/{reader}" if is_named else pipe
+
+    def test_no_squitter(self) -> None:
+        """A source without squitters is refused, with what it is, what is in it and what to do."""
+        short = b"*5D40621D000000;\n"
+        for data, form, told in (
+            (b"", None, "it is empty"), (b"", "beast", "it is empty"),
+            *((data, None, NO_FRAME) for data in (b"x\n", b"x", bytes(100), b"\n", b"0 x\n", b"x\n" * (1 << 13))),
+            (b"time,icao24,rawmsg\n", None, NO_SQUITTER), (b"x\n", "log", f"{NO_SQUITTER}, 1 damaged"),
+            (short * 3, None, f"{NO_SQUITTER}, 3 of other downlink formats"),
+            (b"MSG,3,,,40621D,,,,,,,38000,,,52.2,3.9\n", None, "the input is SBS (BaseStation) text, which has no "
+             "frames: read port 30005 or 30002"),
+            (b'{"now": 1}\n', None, "the input is lines of JSON, which have no frames"),
+            ("5 x\n".encode("utf-16"), None, "the input is UTF-16: try iconv -f UTF-16 -t UTF-8 FILE | squitter feed"),
+        ):
+            calls = [lambda source: batch.feed(source, form)]
+            calls += [batch.dataframe] if pandas is not None and form is None else []
+            for call in calls:
+                for source in self.given(data):
+                    with self.assertRaises(ValueError) as raised:
+                        call(source)
+                    name, _, said = str(raised.exception).partition(": ")
+                    self.assertEqual((name, said), (_source.name_of(source), told))
 
     def test_no_format(self) -> None:
-        for data in (b"", b"x\n", bytes(100), b"\x1a3" + bytes(7) + bytes.fromhex(ODD)[:7]):
-            with self.assertRaisesRegex(ValueError, "^this (is Beast|has no frame of Beast, AVR, CSV or a log)"):
-                batch.feed(data)
-        with self.assertRaisesRegex(ValueError, "^this is gzip"):
-            batch.feed(gzip.compress(LINES))
         late = b"x\n" * (1 << 13)  # as long as the bytes that may show a format
-        with self.assertRaisesRegex(ValueError, "has no frame"):
+        with self.assertRaisesRegex(ValueError, NO_FRAME):
             batch.feed(late + SOURCES["log"])
         self.same(batch.feed(late[:-len(f"6682 {EVEN}\n") - 1] + b"\n" + SOURCES["log"]))
         for form in ("xml", 5, -1):
@@ -139,12 +186,7 @@ class Recordings(unittest.TestCase):
             batch.feed(io.StringIO("5 x\n"))
 
 
-PACKED = {
-    "gzip": (gzip.compress(LINES), "gzip.open", "gzip.decompress"),
-    "bzip2": (bz2.compress(LINES), "bz2.open", "bz2.decompress"),
-    "xz": (lzma.compress(LINES), "lzma.open", "lzma.decompress"),
-}
-OPENED = {"gzip": gzip.open, "bzip2": bz2.open, "xz": lzma.open}
+PACKED = {"gzip": gzip.compress, "bzip2": bz2.compress, "xz": lzma.compress}
 
 
 class Errors(unittest.TestCase):
@@ -164,52 +206,57 @@ class Errors(unittest.TestCase):
         self.assertNotIn("\n", text)
 
     def test_archives(self) -> None:
-        """An archive is named, with the call that opens or unpacks it, and what that call gives is read."""
-        for name, (data, opened, unpacked) in PACKED.items():
-            self.path.write_bytes(data)
-            by_file, by_bytes = f"{name}: open it with {opened} first", f"{name}: unpack it with {unpacked} first"
-            for call in [*self.calls, lambda given: batch.feed(given, "beast"), lambda given: batch.feed(given, "csv")]:
-                for given in (self.path, str(self.path)):
-                    self.told(ValueError, f"{self.path} is {by_file}", call, given)
+        """An archive is read whatever its name: several members, also cut anywhere, and zeros behind them."""
+        front, back = LINES[:70], LINES[70:]
+        for packed in PACKED.values():
+            for data in (packed(LINES), packed(front) + packed(back), packed(b"") + packed(LINES) + packed(b""),
+                         packed(LINES) + bytes(1), packed(front) + bytes(4096) + packed(back) + bytes(1 << 17)):
+                self.path.write_bytes(data)
                 with open(self.path, "rb") as file:
-                    self.told(ValueError, f"{self.path} is {by_file}", call, file)
-                self.told(ValueError, f"this is {by_file}", call, io.BytesIO(data))
-                for given in (data, bytearray(data), memoryview(data)):
-                    self.told(ValueError, f"this is {by_bytes}", call, given)
-            with OPENED[name](self.path) as file:
-                self.assertEqual(batch.feed(file)[0].tolist(), MOMENTS)
-        for data, name in ((b"\x28\xb5\x2f\xfd" + bytes(9), "zstd"), (b"PK\3\4" + bytes(9), "a zip archive")):
+                    for given in (self.path, str(self.path), file, io.BytesIO(data), data, bytearray(data)):
+                        self.assertEqual(batch.feed(given)[0].tolist(), MOMENTS)
+                if pandas is not None:
+                    self.assertEqual(batch.dataframe(self.path)["moment"].tolist(), MOMENTS)
+                for size in (1, 40, len(data) - 1, len(data)):
+                    with mock.patch.object(_source, "_PACKED", size):
+                        self.assertEqual(batch.feed(data)[0].tolist(), MOMENTS)
+            self.assertEqual(batch.feed(packed(SOURCES["beast"]), "beast")[0].tolist(), MOMENTS)
+            members = b"".join(packed(LINES[at:at + 1]) for at in range(len(LINES)))
+            self.assertEqual(batch.feed(members)[0].tolist(), MOMENTS)
+
+    def test_damaged_archives(self) -> None:
+        """An archive that ends early, is damaged or has something else behind it is refused with its name."""
+        for name, packed in PACKED.items():
+            data = packed(LINES)
+            for damaged, what in (
+                (data[:-1], "ends early"), (data[:len(data) // 2], "ends early"), (data[:6], "ends early"),
+                (data + data[:-1], "ends early"), (data + b"x", "is damaged at its end"),
+                (data + bytes(9) + b"5 x\n", "is damaged at its end"),
+                (data[:len(data) // 2] + b"x" * 9 + data[len(data) // 2 + 9:], "is damaged"),
+            ):
+                self.path.write_bytes(damaged)
+                for call in (*self.calls, lambda given: batch.feed(given, "log")):
+                    self.told(ValueError, f"{self.path}: the {name} archive {what}", call, self.path)
+                    self.told(ValueError, f"this: the {name} archive {what}", call, damaged)
             for call in self.calls:
-                self.told(ValueError, f"this is {name}: unpack it first", call, data)
-        for data in (b"\x1f", b"BZh0", b"BZh", b"\xfd7zXZ", b"PK\3\5", b"x\x1f\x8b"):
-            self.told(ValueError, "this has no frame of Beast, AVR, CSV or a log in its first 16384 bytes", batch.feed,
-                      data)
-        self.told(ValueError, "this has no frame of Beast, AVR, CSV or a log: it is empty", batch.feed, b"")
-        for data, where in ((b"", ": it is empty"), (b"x", " in its first 16384 bytes")):
-            reader, writer = os.pipe()
-            os.write(writer, data)
-            os.close(writer)
-            name = f"/dev/fd/{reader}"
-            self.told(ValueError, f"{name} has no frame of Beast, AVR, CSV or a log{where}", batch.feed, name)
-            os.close(reader)
-        # A source with squitters is read, whatever it begins with.
-        self.assertEqual(batch.feed(b"\x1f\x8b" + SOURCES["beast"], "beast")[0].tolist(), MOMENTS)
+                self.told(ValueError, "this: it is empty", call, packed(b""))
+        for call in self.calls:
+            for data, told in ((b"\x28\xb5\x2f\xfd" + bytes(9), "zstd: unpack it first"),
+                               (b"PK\3\4" + bytes(9), "a zip archive: unpack it first"),
+                               (gzip.compress(gzip.compress(LINES)), "gzip: unpack it with gzip.decompress first")):
+                self.told(ValueError, f"this: the input is {told}", call, data)
+            for data in (b"\x1f", b"BZ", b"x\x1f\x8b"):
+                self.told(ValueError, f"this: {NO_FRAME}", call, data)
 
     def test_archives_as_arrays(self) -> None:
-        """An archive, a file or its name in place of moments or frames."""
+        """A file, also an archive, or its name in place of moments or frames."""
         wanted = {"frames": "frames are a list, an array or bytes", "moments":
                   "moments are a list or an array with one for each frame"}
         calls = {"frames": lambda given: batch.track([0], given), "moments": lambda given: batch.track(given, [ODD])}
         for name, call in calls.items():
             of_file = f"{wanted[name]}, not a file: batch.feed reads it, as in track(*batch.feed("
-            for packed, (data, opened, _) in PACKED.items():
-                self.path.write_bytes(data)
-                for given in (self.path, str(self.path)):
-                    self.told(ValueError, f"{self.path} is {packed}: open it with {opened} first", call, given)
-                with open(self.path, "rb") as file:
-                    file.seek(0)
-                    self.told(ValueError, f"{self.path} is {packed}: open it with {opened} first", call, file)
-                    self.assertEqual(file.tell(), 0)
+            self.path.write_bytes(gzip.compress(LINES))
+            self.told(ValueError, f"{of_file}'{self.path}'))", call, self.path)
             self.path.write_bytes(LINES)
             for given in (self.path, str(self.path), open(self.path, "rb"), open(self.path)):
                 self.told(ValueError, f"{of_file}'{self.path}'))", call, given)
@@ -222,7 +269,7 @@ class Errors(unittest.TestCase):
         os.mkfifo(self.path.parent / "pipe")
         pipe_path = self.path.parent / "pipe"
         self.told(ValueError, f"{of_file}'{pipe_path}'))", call, pipe_path)
-        data = PACKED["gzip"][0]
+        data = gzip.compress(LINES)
         data += bytes(14 - len(data) % 14 + 1)
         self.told(ValueError, f"frames are 14 bytes each, one after the other, not {len(data)} bytes of gzip: unpack "
                   "it with gzip.decompress first", batch.track, [0], data)
@@ -275,34 +322,33 @@ class DataFrames(unittest.TestCase):
                 for source in (data, io.BytesIO(data)):
                     self.assertTrue(batch.dataframe(source, exact=True).equals(wanted), name)
         # A table may have the time 0 in all rows.
-        zeros = batch.dataframe(f"time,icao24,rawmsg\n0,,{ODD}\n0.0,,{EVEN}\n".encode())
+        with self.assertWarnsRegex(UserWarning, ALL_AT_0):
+            zeros = batch.dataframe(f"time,icao24,rawmsg\n0,,{ODD}\n0.0,,{EVEN}\n".encode())
         self.assertEqual((zeros["moment"].tolist(), zeros["answer"].tolist()), ([0, 0], ["waiting", "fix"]))
         limited = batch.dataframe(SOURCES["csv"], window=100)
         self.assertEqual(limited["answer"].tolist(), ["waiting", "waiting", "waiting", "fix"])
-        with self.assertRaisesRegex(ValueError, "^this has no times"):
-            batch.dataframe(UNTIMED["beast"])
+        for data in UNTIMED.values():
+            with self.assertWarnsRegex(UserWarning, f"^{ALL_AT_0}$") as warned:
+                self.assertEqual(set(batch.dataframe(data)["moment"].tolist()), {0})
+            self.assertEqual(warned.filename, __file__)
 
-    def test_other_formats(self) -> None:
-        """What is no log is named, by a file's name and by its bytes. A log with a good line, or with lines of no known
-        kind, is taken."""
+    def test_logs_with_faults(self) -> None:
+        """A log with a good line is taken, whatever stands before it; so is one with damaged frames alone."""
         log = f"0 {ODD}\n400 {EVEN}\n".encode()
-        avr = f"*{ODD};\r\n*{EVEN};\r\n".encode()
-        csv = f"moment,frame\n0,{ODD}\n".encode()
-        beast = b"\x1a3" + bytes(7) + bytes.fromhex(ODD)
-        others = {"AVR": avr, "CSV": csv, "Beast": beast}
-        with tempfile.TemporaryDirectory() as folder:
-            for what, data in others.items():
-                path = pathlib.Path(folder) / "other"
-                path.write_bytes(data)
-                with self.assertRaisesRegex(ValueError, f"^{path} is {what}.*squitter-feed"):
-                    batch.dataframe(path)
-                for source in (io.BytesIO(data), data):
-                    with self.assertRaisesRegex(ValueError, f"^this is {what}.*squitter-feed"):
-                        batch.dataframe(source)
+        avr, csv = f"*{ODD};\r\n*{EVEN};\r\n".encode(), f"moment,frame\n0,{ODD}\n".encode()
         # (a line without its time is a bad moment of a log, and not a recording of AVR)
         self.assertEqual(batch.dataframe(f"{ODD}\n400 {EVEN}\n".encode())["answer"].tolist(), ["bad moment", "waiting"])
-        for data, count in ((avr + log, 4), (csv + log, 4), (b"x\ny\n", 2), (b"", 0), (b"\n", 0), (b"*\n;\n", 2)):
-            self.assertEqual(len(batch.dataframe(io.BytesIO(data))), count)
+        for data in (avr + log, csv + log, b"x\n" * (1 << 13) + log):
+            self.assertEqual(batch.dataframe(io.BytesIO(data))["answer"].tolist()[-2:], ["waiting", "fix"])
+        damaged = f"0 {ODD[:-1]}0\n1 {ODD[:-1]}1\n".encode()
+        self.assertEqual(batch.dataframe(damaged)["answer"].tolist(), ["parity 000006", "parity 000007"])
+        for one in (ODD, f"*{ODD};", f"{ODD}\n"):
+            row = batch.dataframe(one.encode()).iloc[0]
+            self.assertEqual((row["line"], row["moment"], row["answer"]), (1, 0, "waiting"))
+        # One message of Beast is a recording, with or without a time.
+        for count, moment in ((0, 0), (12_000, 1)):
+            message = b"\x1a3" + count.to_bytes(6, "big") + b"\x80" + bytes.fromhex(ODD)
+            self.assertEqual(batch.dataframe(message)["moment"].tolist(), [moment])
 
 
 if __name__ == "__main__":

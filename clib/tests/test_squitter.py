@@ -1,28 +1,21 @@
 #!/usr/bin/env python3
-"""The module squitter: each call on a worked row, each fault as it is raised, and what Python alone adds."""
+"""The module squitter: each call on a worked row, each fault as it is raised, and what Python alone adds.
+test_hearing.py has contacts, trackers and logs."""
 import array
 import copy
 import doctest
-import gc
-import inspect
 import os
 import pickle
-import re
-import resource
-import signal
 import sys
-import threading
 import unittest
-import weakref
 from decimal import Decimal
 from fractions import Fraction
 
 CLIB = os.path.join(os.path.dirname(os.path.abspath(__file__)), "..")
-sys.path[:0] = [CLIB, os.path.join(CLIB, "..", "tests")]
+sys.path.insert(0, CLIB)
 import squitter  # noqa: E402
-import transcripts  # noqa: E402
 from squitter import (  # noqa: E402
-    AirHead, AltitudeForm, Code, Contact, Fault, Format, GroundHead, Kind, Log, Position, Tracker, What,
+    AirHead, AltitudeForm, Code, Contact, Fault, GroundHead, Kind, Log, Position, Tracker, What,
 )
 
 EVEN = "8D40621D58C382D690C8AC2863A7"
@@ -34,47 +27,13 @@ PLACE = Position(Fraction(428091, 8192), Fraction(64215, 16384))
 GROUND_PLACE = Position(Fraction(202304115, 3866624), Fraction(2172069, 458752))
 SITE = Position(Fraction(51990, 1000), Fraction(4375, 1000))
 
-# A log without a line feed at its end, its results, and the number of results after each number of line feeds.
-LINES = f"""5 {ODD}
-6 {GROUND_OLDER}\r
-
-10005 *{EVEN};
-x
-10004 {ODD}
-{"A" * 65}
-10006 {GROUND_NEWER}""".encode()
-ANSWERS = b"""1 waiting 40621D
-2 waiting 484175
-4 fix 40621D 52.2572021 3.9193726
-5 bad moment
-6 moment back 10005
-7 long line
-8 fix 484175 52.3206071 4.7347347
-"""
-# The faults that say what is wanted, after the library's text.
-HINTED = {
-    Code.WRAP, Code.SHORT, Code.LENGTH, Code.DIGIT, Code.NOT_A_NUMBER, Code.TOO_MANY_DECIMALS, Code.ANGLE_RANGE,
-    Code.BAD_POSITION, Code.BAD_LATITUDE, Code.BAD_ANGLE, Code.BAD_FIELDS, Code.BAD_FEET, Code.BAD_PARITY,
-    Code.NO_TRACKER,
-}
-ANSWERED = [0, 1, 2, 2, 3, 4, 5, 6]
+# The faults that say what to do: all that calls raise.
+HINTED = {*Code} - {Code.OK, Code.LONG_LINE, Code.BAD_MOMENT, Code.LONG_LOG, Code.NO_MEMORY, Code.BAD_FORMAT}
 
 
-class Named(Contact):
-    """A contact with more: a slot, and attributes."""
+class Refusing(unittest.TestCase):
+    """Tests of calls that raise faults."""
 
-    __slots__ = ("name", "__dict__")
-
-
-def iter_once(tracker):
-    return next(iter(tracker))
-
-
-def reversed_once(tracker):
-    return next(reversed(tracker))
-
-
-class Calls(unittest.TestCase):
     def refused(self, code, call, *arguments, first=0, second=0, **named):
         with self.assertRaises(Fault) as raised:
             call(*arguments, **named)
@@ -84,6 +43,10 @@ class Calls(unittest.TestCase):
         self.assertEqual(str(fault), f"{text}: {fault.hint}" if fault.hint else text)
         self.assertEqual(bool(fault.hint), code in HINTED)
         self.assertNotIn("\n", str(fault))
+
+
+class Calls(Refusing):
+    """Frames, angles, positions and zones."""
 
     def test_each_field(self):
         """Each field of a squitter in its place, each with a value of its own, in the air and on the ground."""
@@ -95,7 +58,24 @@ class Calls(unittest.TestCase):
         ground = GroundHead(0xABCDEF, ca=6, type_code=7, movement=100, track_status=1, track=90, time=1)
         read = squitter.read(squitter.encode(ground, Position(1, 2)))
         self.assertEqual(read._replace(lat=0, lon=0, raw=0), squitter.Fields(
-            Kind.GROUND, 0xABCDEF, 6, 7, 0, 0, 0, 1, 0, 0, 0, AltitudeForm.NONE, 0, 100, 1, 90, 0))
+            Kind.GROUND, 0xABCDEF, 6, 7, 0, 0, 0, 1, 0, 0, 0, AltitudeForm.NONE, None, 100, 1, 90, 0))
+
+    def test_lacked_fields(self):
+        """What a squitter lacks is None where 0 is a value: the code of no position, and no altitude in feet."""
+        nowhere = AirHead(5, altitude=0), AirHead(5, altitude=squitter.field_of_feet(0)), GroundHead(5)
+        frames = ["8D485020994409940838175B284F", EVEN, *(squitter.encode(head, Position(0, 0)) for head in nowhere)]
+        told = [(read.lat, read.lon, read.lat_code, read.lon_code, read.feet) for read in map(squitter.read, frames)]
+        self.assertEqual(told, [(None,) * 5, (93000, 51372, 93000, 51372, 38000), (0, 0, 0, 0, None), (0, 0, 0, 0, 0),
+                                (0, 0, 0, 0, None)])
+        many = squitter.read_many(b"".join(map(squitter.frame, frames)))
+        self.assertEqual([(read.lat, read.feet) for read in many], [(lat, feet) for lat, *_, feet in told])
+
+    def test_public_names(self):
+        """A prompt completes the public names, and no imports or helpers."""
+        names = [name for name in dir(squitter) if not name.startswith("__")]
+        self.assertEqual(sorted({*names} - {"batch"}), sorted(squitter.__all__))
+        self.assertTrue({"__doc__", "__name__"} <= {*dir(squitter)})
+        self.assertTrue(all(hasattr(squitter, name) for name in dir(squitter)))
 
     def test_frames(self):
         frame = squitter.frame(f"*{EVEN.lower()};")
@@ -443,7 +423,7 @@ class Calls(unittest.TestCase):
         self.assertEqual(squitter.angle_text(Fraction(-1, 8)), "-0.1250000")
         self.assertEqual(squitter.angle("-0.50"), Fraction(-1, 2))
         self.assertEqual(squitter.feet_of_field(11, 0xC38), (AltitudeForm.FEET, 38000))
-        self.assertEqual(squitter.feet_of_field(20, 5), (AltitudeForm.OTHER, 0))
+        self.assertEqual(squitter.feet_of_field(20, 5), (AltitudeForm.OTHER, None))
         with open(os.path.join(os.path.dirname(__file__), "..", "..", "VERSION"), encoding="utf-8") as file:
             self.assertEqual(squitter.version(), file.read().strip())
         self.refused(Code.BAD_LATITUDE, squitter.zone_count, 91)
@@ -454,315 +434,6 @@ class Calls(unittest.TestCase):
         self.refused(Code.BAD_FEET, squitter.field_of_feet, 38001)
         self.refused(Code.BAD_FEET, squitter.field_of_feet, 1 << 40)
         self.refused(Code.BAD_FIELDS, squitter.feet_of_field, 19, 0)
-
-    def test_hearing(self):
-        contact = Contact(10_000)
-        self.assertEqual(contact.hear(5, ODD), (What.WAITING, None, 0, 0))
-        self.assertEqual(contact.hear(10_005, EVEN), (What.FIX, PLACE, 0, 0))
-        self.refused(Code.MOMENT_BACK, contact.hear, 10_004, EVEN, first=10_005)
-        self.assertEqual((contact.last, contact.newest), (10_005, 10_005))
-        self.assertEqual((Contact().last, Contact().newest), (0, 0))
-        self.assertEqual(contact.hear(10_006, EVEN).what, What.FOLLOWED)
-        self.assertEqual(contact.hear(30_000, EVEN).what, What.WAITING)
-        ground = Contact(10, SITE)
-        ground.hear(1, GROUND_OLDER)
-        self.assertEqual(ground.hear(2, GROUND_NEWER), (What.FIX, GROUND_PLACE, 0, 0))
-        self.refused(Code.BAD_POSITION, Contact, 10, Position(91, 0))
-        self.refused(Code.TABLE_FULL, contact.hear, 40_000, GROUND_OLDER)
-        self.assertEqual(contact.hear(40_001, GROUND_OLDER).what, What.WAITING)
-        for window, moment in ((10.0, 1), (10, 1.0), ("10", 1)):
-            with self.assertRaises(TypeError):
-                Contact(window).hear(moment, EVEN)
-        for window, moment in ((-1, 1), (1 << 64, 1), (10, -1), (10, 1 << 64)):
-            with self.assertRaises(ValueError):
-                Contact(window).hear(moment, EVEN)
-
-    def test_default_window(self):
-        """Trackers, contacts and logs have one default window. A pair has at most the window between its frames."""
-        self.assertEqual(squitter.WINDOW, 10_000)
-        self.assertIn("WINDOW", squitter.__all__)
-        for kind in (Tracker, Contact, Log):
-            self.assertIs(inspect.signature(kind).parameters["window"].default, squitter.WINDOW)
-        for between, what in ((0, What.FIX), (squitter.WINDOW, What.FIX), (squitter.WINDOW + 1, What.WAITING)):
-            for kind in (Tracker, Contact):
-                for tracker in (kind(), kind(squitter.WINDOW), kind(window=squitter.WINDOW)):
-                    tracker.hear(5, ODD)
-                    self.assertEqual(tracker.hear(5 + between, EVEN).what, what)
-            lines = Log().take(f"5 {ODD}\n{5 + between} {EVEN}\n".encode()).splitlines()
-            self.assertEqual(lines[1].split()[1].decode(), what.name.lower())
-
-    def test_tracker(self):
-        with Tracker(10_000, SITE) as tracker:
-            self.assertEqual(tracker.hear(5, ODD), (What.WAITING, None, 0, 0))
-            self.assertEqual(tracker.hear(6, GROUND_OLDER).what, What.WAITING)
-            self.assertEqual(tracker.hear(10_005, EVEN), (What.FIX, PLACE, 0, 0))
-            self.assertEqual(tracker.hear(10_006, GROUND_NEWER), (What.FIX, GROUND_PLACE, 0, 0))
-            self.refused(Code.MOMENT_BACK, tracker.hear, 10_005, ODD, first=10_006)
-            self.refused(Code.PARITY, tracker.hear, 1, ODD[:-1] + "7", first=1)
-            self.refused(Code.SHORT, tracker.hear, 1, ODD[:14])
-            self.assertEqual(len(tracker), 2)
-            self.assertEqual(list(tracker), [(0x40621D, 10_005), (0x484175, 10_006)])
-            self.assertEqual((tracker[1], tracker[-1], tracker[-2]), (*list(tracker)[1:], *list(tracker)[::-1]))
-            for index in (2, -3, 1 << 64):
-                with self.assertRaises(IndexError):
-                    tracker[index]
-            with self.assertRaises(TypeError):
-                tracker["0"]
-        tracker.close()
-
-    def test_closed_tracker(self):
-        """Each call of a closed tracker raises NO_TRACKER, whatever its arguments."""
-        tracker = Tracker()
-        tracker.hear(1, ODD)
-        for _ in range(2):
-            tracker.close()
-            for call in (
-                len, list, iter_once, reversed_once, bool, lambda it: it[0], lambda it: it[-1], lambda it: it["0"],
-                lambda it: it[1 << 70], lambda it: it.hear(2, EVEN), lambda it: it.hear(2, "*"),
-                lambda it: it.hear(-1, EVEN), lambda it: it.hear(1.0, None), lambda it: it.hear_many([1, 2], bytes(28)),
-                lambda it: it.hear_many([], b""), lambda it: it.hear_many([1], b"x"), lambda it: it.__enter__(),
-                lambda it: ODD in it,
-            ):
-                self.refused(Code.NO_TRACKER, call, tracker)
-
-    def test_closed_by_another_thread(self):
-        """Closing a tracker waits until the calls under way are done."""
-        tracker = Tracker()
-        with tracker._lock:
-            closing = threading.Thread(target=tracker.close)
-            closing.start()
-            closing.join(0.2)
-            self.assertTrue(closing.is_alive() and tracker._slot.full)
-        closing.join(5)
-        self.assertFalse(closing.is_alive() or tracker._slot.full)
-
-    def test_signal_handler(self):
-        """A signal handler may use a tracker in the middle of a call of the thread."""
-        tracker, told = Tracker(), []
-        tracker.hear(1, ODD)
-
-        def handler(*_):
-            if not tracker._lock.acquire(blocking=False):
-                return  # The calls below would wait for ever.
-            tracker._lock.release()
-            told.append((len(tracker), tracker[0].address, tracker.hear(5, EVEN).what))
-
-        was = signal.signal(signal.SIGALRM, handler)
-        self.addCleanup(signal.signal, signal.SIGALRM, was)
-        taken = tracker._lock
-
-        class Slow:
-            """Timestamps that raise the signal while they are read."""
-
-            def __len__(self):
-                return 1
-
-            def __iter__(self):
-                signal.raise_signal(signal.SIGALRM)
-                return iter([9])
-
-        self.assertEqual(tracker.hear_many(Slow(), squitter.frame(ODD))[0].what, What.FIX)
-        self.assertEqual(told, [(1, 0x40621D, What.FIX)] * len(told))
-        self.assertTrue(told and taken is tracker._lock)
-
-    def test_tracker_of_many(self):
-        frames = [squitter.frame(text) for text in (ODD, GROUND_OLDER, EVEN, GROUND_NEWER)]
-        source, moments = b"".join(frames) + bytes(14), [5, 6, 4, 7, 8]
-        one, many = Tracker(limit=2), Tracker(limit=2)
-        heard = many.hear_many(moments, source)
-        self.assertEqual([answer.what for answer in (heard[0], heard[1], heard[3])],
-                         [What.WAITING, What.WAITING, What.WITHOUT_SITE])
-        self.assertEqual([(fault.code, fault.first) for fault in (heard[2], heard[4])],
-                         [(Code.MOMENT_BACK, 6), (Code.NOT_DF17, 0)])
-        for moment, frame, answer in zip(moments, frames, heard):
-            if isinstance(answer, Fault):
-                self.refused(answer.code, one.hear, moment, frame, first=answer.first)
-            else:
-                self.assertEqual(one.hear(moment, frame), answer)
-        self.assertEqual(many.hear_many([], b""), [])
-        for wrong in ([1], [1, -1], [1, 1 << 64]):
-            with self.assertRaises(ValueError):
-                many.hear_many(wrong, bytes(28))
-        full = Tracker(limit=1)
-        full.hear(0, ODD)
-        self.refused(Code.TABLE_FULL, full.hear, 10_000, GROUND_OLDER)
-        self.assertEqual(full.hear(10_001, GROUND_OLDER).what, What.WAITING)
-
-    def test_tracker_and_its_memory(self):
-        self.refused(Code.NO_LIMIT, Tracker, 10_000, None, 0)
-        self.refused(Code.BAD_POSITION, Tracker, 10_000, Position(91, 0))
-        for wrong in ({"window": -1}, {"window": 1 << 64}, {"limit": -1}, {"limit": 1 << 32}):
-            with self.assertRaises(ValueError):
-                Tracker(**wrong)
-        with self.assertRaises(TypeError):
-            Tracker(limit=1.0)
-        tracker = Tracker()
-        tracker.hear(1, ODD)
-        memory = weakref.ref(tracker._memory)
-        tracker.close()
-        for taken in (copy.copy, copy.deepcopy, pickle.dumps):
-            self.refused(Code.NO_TRACKER, taken, tracker)
-        self.assertFalse(tracker._slot.full or tracker._slot.at or memory())
-        tracker = Tracker()
-        memory = weakref.ref(tracker._memory)
-        del tracker
-        gc.collect()
-        self.assertIsNone(memory())
-
-    def test_no_memory(self):
-        """Trackers and logs for more addresses than the system has memory for are refused."""
-        was = resource.getrlimit(resource.RLIMIT_AS)
-        self.addCleanup(resource.setrlimit, resource.RLIMIT_AS, was)
-        resource.setrlimit(resource.RLIMIT_AS, (1 << 33, was[1]))
-        for make in (Tracker, Log):
-            self.refused(Code.NO_MEMORY, make, limit=(1 << 32) - 1)
-            self.refused(Code.BAD_POSITION, make, site=Position(91, 0), limit=(1 << 32) - 1)
-            self.assertIsNotNone(make(limit=1))
-
-    def test_log(self):
-        """The result of a line comes with its line feed, whatever the pieces, and that of the last line at the end."""
-        for size in (1, 2, 7, 64, len(LINES)):
-            log, told = Log(10_000, SITE), b""
-            for at in range(0, len(LINES), size):
-                told += log.take(LINES[at:at + size])
-                self.assertEqual(told.count(b"\n"), ANSWERED[LINES[:at + size].count(b"\n")])
-            self.assertEqual(told + log.finish(), ANSWERS)
-            self.assertEqual(log.tally, (4, 3))
-            self.assertEqual(log.finish(), b"")
-        for kind in (bytearray, memoryview):
-            log = Log(10_000, SITE)
-            self.assertEqual(log.take(kind(LINES)) + log.finish(), ANSWERS)
-        self.assertEqual((Log().take(b""), Log().finish()), (b"", b""))
-        for wrong in ("5 x", 5, None, [53]):
-            with self.assertRaises(TypeError):
-                Log().take(wrong)
-
-    def test_formats(self):
-        """Each format prints what the worked cases of `squitter track` print. The header of CSV comes once."""
-        worked, words_of = {}, re.compile(r"squitter track --format=(\w+)(?: --window=(\d+))? << END\n(.*)END\n", re.S)
-        for case in transcripts.cases("track"):
-            words = words_of.fullmatch(case.script)
-            if words:
-                worked[words[1]] = words[3].encode().splitlines(True), case.printed.encode().splitlines(True)
-                log = Log(int(words[2] or 10_000), format=words[1])
-                self.assertEqual(log.take(words[3].encode()) + log.finish(), case.printed.encode())
-        self.assertEqual({"lines", *worked}, {form.name.lower() for form in Format})
-        lines, (header, first, *rows) = worked["csv"]
-        for form in ("csv", Format.CSV, 1):
-            log = Log(format=form)
-            self.assertEqual([log.take(line) for line in lines], [header + first, *rows])
-        self.assertEqual(Log(format="csv").finish(), header)
-        for wrong in ("CSV", "lines ", "", len(Format), -1, None):
-            with self.assertRaises(ValueError):
-                Log(format=wrong)
-
-    def test_log_in_a_signal_handler(self):
-        """A signal handler may use the log between two calls of the library; the outer call returns the same."""
-        log, count, told, texts = Log(), 10_000, [], squitter._hearing.ctypes.string_at
-
-        def interrupted(*words):
-            """Runs the handler before the module copies the library's output."""
-            squitter._hearing.ctypes.string_at = texts
-            signal.raise_signal(signal.SIGALRM)
-            return texts(*words)
-
-        was = signal.signal(signal.SIGALRM, lambda *_: told.append(log.take(b"\nx\n")))
-        self.addCleanup(signal.signal, signal.SIGALRM, was)
-        self.addCleanup(setattr, squitter._hearing.ctypes, "string_at", texts)
-        squitter._hearing.ctypes.string_at = interrupted
-        outer = log.take(f"5 {ODD}\n".encode() * count)
-        # The handler's bytes come in the middle of a line.
-        (inner,) = told
-        self.assertTrue(inner.endswith(b" bad moment\n"), inner)
-        before = int(inner.split()[0])
-        self.assertTrue(outer.startswith(b"".join(b"%d waiting 40621D\n" % number for number in range(1, before))))
-
-    def test_rooms_of_answers(self):
-        """All results are returned, however many calls of the library they take."""
-        line, log = f"5 {ODD}\n".encode(), Log()
-        for count in (1, 3_500, 3_641, 3_642, 10_000):
-            log = Log()
-            told = log.take(line * count)
-            self.assertEqual(told, b"".join(b"%d waiting 40621D\n" % (number + 1) for number in range(count)))
-            self.assertEqual(log.tally, (count, 0))
-
-    def test_closed_log(self):
-        log = Log()
-        log.take(LINES[:40])
-        for _ in range(2):
-            log.close()
-            for call in (lambda it: it.take(b""), lambda it: it.take(3), lambda it: it.finish(), lambda it: it.tally,
-                         lambda it: it.__enter__()):
-                self.refused(Code.NO_TRACKER, call, log)
-        with Log() as log:
-            self.assertEqual(log.take(b"x\n"), b"1 bad moment\n")
-        self.refused(Code.NO_TRACKER, log.finish)
-        for taken in (copy.copy, copy.deepcopy, pickle.dumps):
-            with self.assertRaises(TypeError):
-                taken(Log())
-        self.refused(Code.NO_LIMIT, Log, limit=0)
-
-    def test_tracker_of_threads(self):
-        tracker, heard = Tracker(), []
-
-        def hear():
-            heard.extend(tracker.hear(7, ODD).what for _ in range(200))
-
-        threads = [threading.Thread(target=hear) for _ in range(4)]
-        for thread in threads:
-            thread.start()
-        tracker.hear_many([7] * 500, squitter.frame(ODD) * 500)
-        for thread in threads:
-            thread.join()
-        self.assertEqual((len(heard), set(heard), len(tracker)), (800, {What.WAITING}, 1))
-
-    def test_copies(self):
-        tracker = Tracker(10_000, SITE, 7)
-        tracker.hear(4, GROUND_OLDER), tracker.hear(5, ODD)
-        for other in (copy.copy(tracker), copy.deepcopy(tracker), pickle.loads(pickle.dumps(tracker))):
-            self.assertEqual([*other], [*tracker])
-            self.assertEqual(other.hear(6, EVEN), (What.FIX, PLACE, 0, 0))
-            self.assertEqual((tracker.last, other.last), (5, 6))
-            self.assertEqual(other.hear(8, GROUND_NEWER).position, GROUND_PLACE)
-            self.refused(Code.MOMENT_BACK, other.hear, 7, ODD, first=8)
-        self.assertEqual(tracker.hear(6, EVEN).what, What.FIX)
-        # An empty tracker too, and one that accepted a frame without a position.
-        for moments in ([], [9]):
-            tracker = Tracker(limit=1)
-            tracker.hear_many(moments, bytes.fromhex(OTHER) * len(moments))
-            other = pickle.loads(pickle.dumps(tracker))
-            self.assertEqual((other.last, len(other), other._save()), (sum(moments), 0, tracker._save()))
-        # A pickle names the class in the package, not in a module of it.
-        self.assertNotIn(b"squitter.", pickle.dumps(tracker))
-        mine = Named(10_000, SITE)
-        mine.name, mine.notes, mine.__dict__["free"] = "A", [1], 5
-        mine.hear(5, ODD)
-        for take in (copy.copy, copy.deepcopy, lambda one: pickle.loads(pickle.dumps(one)),
-                     lambda one: pickle.loads(pickle.dumps(one, 0))):
-            other = take(mine)
-            self.assertEqual((type(other), other.name, other.notes, other.free), (Named, "A", [1], 5))
-            self.assertEqual(other.notes is mine.notes, take is copy.copy)
-            self.assertEqual(other.hear(6, EVEN).position, PLACE)
-            self.assertEqual((mine.last, other.last), (5, 6))
-        _, entries = mine._save()
-        Contact().__setstate__((None, {}, (10, None, 1), 15, entries))
-        self.refused(Code.BAD_ENTRY, Contact().__setstate__, (None, {}, (10, None, 1), 16, entries))
-        with self.assertRaises(ValueError):
-            Contact().__setstate__((None, {}, (10, None, 1), 15, entries + b"0"))
-        fault = Fault(Code.ZONE_COUNTS, 45, 44)
-        for other in (copy.copy(fault), copy.deepcopy(fault), pickle.loads(pickle.dumps(fault))):
-            self.assertEqual((other.code, other.first, other.second), (Code.ZONE_COUNTS, 45, 44))
-            self.assertEqual(str(other), "zone counts 45 44")
-
-    def test_site_of_a_copy(self):
-        """A copy has the site that its tracker was made with, though the caller's list has changed since."""
-        for site in ([*SITE], iter(SITE)):
-            tracker = Tracker(site=site)
-            tracker.hear(4, GROUND_OLDER)
-            if isinstance(site, list):
-                site[:] = 0, 91
-            for other in (copy.copy(tracker), copy.deepcopy(tracker), pickle.loads(pickle.dumps(tracker))):
-                self.assertEqual(other.hear(8, GROUND_NEWER).position, GROUND_PLACE)
 
     def test_faults(self):
         self.assertEqual(squitter.fault_text(Code.ZONE_COUNTS, 45, 44), "zone counts 45 44")

@@ -218,12 +218,38 @@ static void try_frames(void) {
   IS(is_refused(&changed, 0));
   changed = saved, changed.entries[0].surface = changed.entries[0].airborne;
   IS(is_refused(&changed, 0));
-  changed = saved, changed.entries[0].airborne.even.frame[13] ^= 1; /* not a squitter, so absent */
+  changed = saved, changed.entries[0].airborne.even.frame[13] ^= 1; /* not a squitter, so absent: a fix needs both */
+  IS(is_refused(&changed, 0));
+  changed.entries[0].airborne.fix.position.lat.den = 0; /* no fix */
   IS(is_restored(&changed));
   changed = saved, changed.entries[0].airborne.odd.frame[13] ^= 1; /* now the newest position is absent */
   IS(is_refused(&changed, 0));
   changed = saved, changed.entries[0].surface.fix = changed.entries[0].airborne.fix; /* a fix without a position */
   IS(is_refused(&changed, 0));
+}
+
+/* The fix is at a point of the odd grid, of the frame at 20. */
+static void try_fixes(void) {
+  state changed = saved;
+  squitter_angle *lat = &changed.entries[0].airborne.fix.position.lat;
+  squitter_angle *lon = &changed.entries[0].airborne.fix.position.lon;
+  IS(lat->den == 59 << 17 && lat->num % 360 == 0);
+  lat->num++;
+  IS(is_refused(&changed, 0));
+  lat->num += 359; /* the next point of the grid to the north, which no frame gave */
+  IS(is_restored(&changed));
+  changed = saved, lon->num--;
+  IS(is_refused(&changed, 0));
+  changed = saved, lat->num /= 2, lat->den /= 2; /* another fraction of the same value */
+  IS(is_refused(&changed, 0));
+  changed = saved, *lat = *lon = (squitter_angle){1, 3};
+  IS(is_refused(&changed, 0));
+  changed = saved, lat->den = lon->den = 0, changed.entries[0].surface.fix = saved.entries[0].airborne.fix;
+  IS(is_refused(&changed, 0));
+  changed = saved, changed.entries[0].airborne.even.moment = 20, changed.entries[0].airborne.odd.moment = 19;
+  IS(is_refused(&changed, 0)); /* newer than the frame of its parity */
+  changed.entries[0].airborne.fix.moment = 19;
+  IS(is_restored(&changed));
 }
 
 static void try_entries(void) {
@@ -254,6 +280,7 @@ static void try_restoring(void) {
   IS(is_restored(&saved) && saved.entries[0].airborne.fix.moment == 20);
   try_times();
   try_frames();
+  try_fixes();
   try_entries();
   IS(is_guarded(&block) && is_guarded(&other));
   squitter_tracker_free(&tracker), squitter_tracker_free(&restored);
