@@ -6,18 +6,20 @@ from __future__ import annotations
 
 import re
 from collections import Counter
-from typing import Callable, Dict, NamedTuple, Optional, Sequence, Tuple
+from typing import Callable, Dict, List, NamedTuple, Optional, Sequence, Tuple
 
 import squitter
 from squitter import FeedFormat, Stranger
+from squitter._errors import ALL_AT_0, STRANGERS
 
 PLENTY = 2000  # the --reorder (ms) to try if frames were late or set aside
+FEW, MANY = 4, 20  # so few frames set aside, or one for so many written, show no second clock in a source
 SQUITTER = 17  # the downlink format of extended squitters
 LONG, SHORT = 28, 14  # digits of a frame
 SAMPLE = 1 << 20  # bytes of lines that show the unit of their timestamps
 SOME = 8  # different frames of an aircraft that show it
 FRONT = 2048  # bytes of a source that show what it is if it has no format that is read
-DENSE, SPARSE = 20, 100_000  # mean milliseconds between these that no receiver hears: one lies far below, one far above
+DENSE, SPARSE = 20, 100_000  # usual milliseconds between these that no receiver hears: one far below, one far above
 
 # Sources with times of their own, and the unit that these have, if they are too dense or too sparse.
 UNITS: Dict[Tuple[Optional[FeedFormat], Optional[int]], str] = {
@@ -26,25 +28,27 @@ UNITS: Dict[Tuple[Optional[FeedFormat], Optional[int]], str] = {
     (FeedFormat.CSV, SPARSE): "the times of this table seem to be milliseconds; they have to be seconds",
 }
 
-# Sources without frames, and what to do with them.
-STRANGERS = {
-    Stranger.SBS: "this is SBS (BaseStation) text, which has no frames: read the receiver's port 30005 or 30002",
-    Stranger.TAR: "this is a tar archive: tar -xOf FILE | squitter-feed -",
-    Stranger.PACKED: "this is compressed twice: unpack it once, and read the result",
-    Stranger.UTF16: "this is UTF-16: iconv -f UTF-16 -t UTF-8 FILE | squitter-feed -",
-    Stranger.JSON: "these are lines of JSON, which have no frames",
-    Stranger.NO_FRAME: "no frame is in its first 16384 bytes: a feed is AVR text, Beast binary, CSV of "
-                       "time,icao24,rawmsg, or a log of track",
-}
+CLOCKED = (FeedFormat.BEAST, FeedFormat.AVR)
+GPS = ("the clock of this source seems to be GPS time, as a Radarcape sends it: set the receiver to 12 MHz, or read "
+       "its port with --arrival")
+# GPS time has seconds above 30 bits of nanoseconds, so its lower part leaves out the numbers from 10^9 to 2^30.
+GPS_SECOND, GPS_MOST = (1 << 30) / 12_000, 10**9 / 12_000  # both in milliseconds at 12 MHz
+GPS_SECONDS, GPS_FRAMES = 50, 200  # that show it: by chance, one in 10^6 recordings at 12 MHz would look like it
+
+TWICE = "the input is compressed twice: unpack it once, and read the result"
 
 # Why a table is not read, by the separator in its first row that has a frame, or the column name rawmsg.
 FRAME_CELL = re.compile(rb"rawmsg|8[0-9a-f]{27}", re.I)
 TABLES = {
-    b";": "this table has semicolons between its columns",
-    b"\t": "this table has tabs between its columns",
-    b",": "this table has no times in seconds",
+    b";": "the table has semicolons between its columns",
+    b"\t": "the table has tabs between its columns",
+    b",": "the table has no times in seconds",
 }
 WANTED = "a table has rows of time,icao24,rawmsg, or names these columns in its first row"
+
+
+# What to do if all items are damaged.
+ALL_DAMAGED = ": try without --format; the times of a table are seconds"
 
 
 class Refused(Exception):
@@ -58,6 +62,7 @@ class Options(NamedTuple):
     leap: int = 600_000
     by_arrival: bool = False
     all_formats: bool = False
+    format: FeedFormat = FeedFormat.AUTO
 
 
 class Feed:
@@ -67,8 +72,8 @@ class Feed:
         self.options = options
         self.live = live
         self.tell = tell
-        self.feed = squitter.Feed(leap=options.leap, live=live, late=options.reorder, all_formats=options.all_formats,
-                                  by_arrival=options.by_arrival)
+        self.feed = squitter.Feed(options.format, options.leap, live, late=options.reorder,
+                                  all_formats=options.all_formats, by_arrival=options.by_arrival)
         self.order = squitter.Order(options.reorder) if options.reorder else None
         self.arrival = 0  # of the last piece (ms)
         self.came = 0  # the arrival (ms) of the last frame
@@ -76,8 +81,10 @@ class Feed:
         self.late = 0  # frames that came after a later one was printed
         self.others: Dict[int, int] = Counter()  # printed frames of other downlink formats
         self.refusal: Optional[Refused] = None  # why the source was refused at its end
+        self.is_damaged = False  # whether all items of a source that ended are damaged
         self.format: Optional[FeedFormat] = None  # of the source, which the library forgets at its end
         self.sample: Optional[bytearray] = bytearray()  # the first lines, until they are looked at
+        self.clocked = False  # whether a source had a receiver's clock
         self.front = b""  # the first bytes of the source, while they show no format
 
     def hear(self, data: bytes, arrival: int) -> bytes:
@@ -88,6 +95,7 @@ class Feed:
         lines = self._counted(self.feed.take(data, arrival)) if self.order is None else self._sorted(
             *self.feed.take_frames(data, arrival), arrival)
         self.format, stranger = self.feed.format, self.feed.stranger
+        self.clocked = self.clocked or self.format in CLOCKED
         if stranger is not None:
             raise self._refused(stranger)
         if len(self.sample or b"") >= SAMPLE:
@@ -116,11 +124,10 @@ class Feed:
         stranger = self.feed.stranger
         if stranger is not None and known is None:
             self.refusal = self._refused(stranger)
-        elif not is_left and self.format is FeedFormat.CSV and 0 < self.feed.counts.found == self.feed.counts.damaged:
-            self.refusal = Refused("no row of this table has a frame, and a time in seconds of at most 12 digits")
+        self.is_damaged = not is_left and 0 < self.feed.counts.found == self.feed.counts.damaged and stranger is None
         self._look_at_unit()
         if not (self.live or is_left or self.printed) and self.feed.counts.written > 1:
-            self.tell("all frames of this file have the timestamp 0, as without times: old ones pair with new")
+            self.tell(ALL_AT_0)
         return lines
 
     def due(self, now: int) -> bytes:
@@ -139,20 +146,25 @@ class Feed:
         counts = self.feed.counts
         formats = self.others if self.options.all_formats else dict(enumerate(counts.formats))
         others = ", ".join(f"DF{number} {count}" for number, count in sorted(formats.items()) if count)
-        is_late = (self.late or counts.aside) and self.options.reorder < PLENTY
+        hint = ""
+        if self.clocked and counts.aside > max(FEW, counts.written // MANY):
+            hint = "; try --arrival: the source seems to have several clocks"
+        elif (self.late or counts.aside) and self.options.reorder < PLENTY:
+            hint = f"; try --reorder={PLENTY}"
         parts = [
             (unwritten, "not written"),
             (unsaved, "not saved"),
             (sum(formats.values()), f"of other downlink formats ({others})" + " among them" * self.options.all_formats),
             (counts.mode_ac, "of Mode A/C"),
             (counts.multilaterated, "multilaterated"),
+            (counts.receiver_ids, "receiver ids"),
             (counts.aside, "set aside"),
             (self.late, "late"),
             (counts.damaged, "damaged"),
         ]
         counted = [f"{count} {what}" for count, what in parts if count]
-        printed = f"{counts.written - self.late - unwritten} printed"
-        return ", ".join([printed, *counted]) + (f"; try --reorder={PLENTY}" if is_late else "")
+        written = f"{counts.written - self.late - unwritten} written"
+        return ", ".join([written, *counted]) + (ALL_DAMAGED if self.is_damaged else hint)
 
     def _sorted(self, moments: Sequence[int], frames: bytes, arrival: int) -> bytes:
         """Returns the lines of the frames that are due now that these have come."""
@@ -190,14 +202,19 @@ class Feed:
     def _refused(self, stranger: Stranger) -> Refused:
         """Returns the refusal of a source without frames of a known format."""
         told = table_of(self.front) if stranger is Stranger.NO_FRAME else None
-        return Refused(told or STRANGERS[stranger])
+        return Refused(told or (TWICE if stranger is Stranger.PACKED else STRANGERS[stranger]))
 
     def _look_at_unit(self) -> None:
         """Reports once if the timestamps of a source seem to have another unit."""
         lines, self.sample = self.sample, None
-        sign = (self.format, sign_of_unit(bytes(lines[:SAMPLE])) if lines else None)
-        if sign in UNITS:
-            self.tell(UNITS[sign])
+        if not lines:
+            return
+        if self.format not in CLOCKED:
+            sign = (self.format, sign_of_unit(bytes(lines[:SAMPLE])))
+            if sign in UNITS:
+                self.tell(UNITS[sign])
+        elif not (self.live or self.options.by_arrival) and is_gps(bytes(lines[:SAMPLE])):
+            self.tell(GPS)
 
 
 def table_of(front: bytes) -> Optional[str]:
@@ -212,10 +229,36 @@ def table_of(front: bytes) -> Optional[str]:
 
 def sign_of_unit(lines: bytes) -> Optional[int]:
     """Returns `DENSE` or `SPARSE` if most aircraft send their frames that much closer together, or farther apart, than
-    any does in milliseconds. A frame that several receivers heard counts once."""
-    heard: Dict[bytes, Dict[bytes, int]] = {}
-    for time, frame in re.findall(rb"([0-9]+) ([0-9A-F]{%d})\n" % LONG, lines):
-        heard.setdefault(frame[2:8], {}).setdefault(frame, int(time))
-    gaps = sorted((max(of.values()) - min(of.values())) / (len(of) - 1) for of in heard.values() if len(of) >= SOME)
-    gap = gaps[len(gaps) // 2] if gaps else DENSE
+    any does in milliseconds. A frame that several receivers heard counts once. The gap of an aircraft is its median, so
+    hours between two flights do not count."""
+    words = lines.split()
+    first = dict(zip(words[1::2][::-1], words[: len(words) // 2 * 2 : 2][::-1]))  # when each frame was heard first
+    heard: Dict[bytes, List[int]] = {}
+    for frame, time in first.items():
+        if len(frame) == LONG:
+            heard.setdefault(frame[2:8], []).append(int(time))
+    gaps = [usual_gap(times) for times in heard.values() if len(times) >= SOME]
+    gap = median(gaps) if gaps else DENSE
     return DENSE if gap < DENSE else SPARSE if gap > SPARSE else None
+
+
+def usual_gap(times: Sequence[int]) -> float:
+    """Returns the median of the gaps between at least two times, in order of time."""
+    ordered = sorted(times)
+    return median([later - earlier for earlier, later in zip(ordered, ordered[1:])])
+
+
+def median(values: Sequence[float]) -> float:
+    """Returns the median of at least one value. (The module statistics takes a tenth of a start to load.)"""
+    ordered, half = sorted(values), len(values) // 2
+    return (ordered[half] + ordered[~half]) / 2
+
+
+def is_gps(lines: bytes) -> bool:
+    """Returns whether the timestamps of a recording are GPS time, read as a count at 12 MHz."""
+    times = [int(time) for time in re.findall(rb"^[0-9]+", lines, re.M)]
+    seconds = {int(time // GPS_SECOND) for time in times}
+    if len(times) < GPS_FRAMES or len(seconds) < GPS_SECONDS or max(seconds) >= 86_400:
+        return False
+    # (a timestamp is rounded down by less than a millisecond)
+    return all((time + 1) % GPS_SECOND <= GPS_MOST + 1 for time in times)

@@ -36,8 +36,9 @@ class Parser(argparse.ArgumentParser):
             file.flush()
         except (AttributeError, OSError) as fault:
             if file is sys.stderr:
-                return  # nobody is there to be told
-            drop_output()
+                drop(2)  # nobody is there to be told
+                return
+            drop(1)
             if not isinstance(fault, BrokenPipeError):
                 tell(self.prog, reason(fault))
                 sys.exit(FAILED)
@@ -63,12 +64,13 @@ def tell(name: str, text: str) -> None:
         sys.stderr.write(f"{name}: {text}\n")
         sys.stderr.flush()
     except OSError:
-        pass  # nobody is there to be told
+        drop(2)  # nobody is there to be told
 
 
-def drop_output() -> None:
-    """Drops what standard output has not taken. Otherwise Python tries again at its exit, and reports the error."""
-    os.dup2(os.open(os.devnull, os.O_WRONLY), 1)
+def drop(number: int) -> None:
+    """Drops what standard output (1) or standard error (2) has not taken. Otherwise Python tries again at its exit, and
+    ends with status 120."""
+    os.dup2(os.open(os.devnull, os.O_WRONLY), number)
 
 
 def reason(fault: BaseException) -> str:

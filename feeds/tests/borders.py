@@ -82,7 +82,7 @@ def counted() -> None:
             seconds += [100_000 * (number + 1), 3 + number]
         rows, feed, said = fed([(b"".join(row(str(second)) for second in seconds), 0)], live=False)
         same((len(rows), said), (3 + count, []), count)
-        same(feed.summary(), f"{3 + count} printed, {count} set aside; try --reorder=2000")
+        same(feed.summary(), f"{3 + count} written, {count} set aside; try --reorder=2000")
 
 
 def newest() -> None:
@@ -144,4 +144,4 @@ def no_times() -> None:
         same(fed([(data, 5)], False)[2], [], data)
     same(fed([(log(0, 0, 0), 5)], True)[2], [], "a live log of zeros")
     rows, feed, _ = fed([(beast(AIR_EVEN) + beast(AIR_ODD, 1) + beast(AIR_EVEN), 5)], live=True)
-    same((feed.summary(), [moment for moment, _ in rows]), ("3 printed", [5, 5, 5]))
+    same((feed.summary(), [moment for moment, _ in rows]), ("3 written", [5, 5, 5]))

@@ -13,7 +13,7 @@ import os
 import random
 import re
 import sys
-from typing import Callable, Dict, List, Tuple
+from typing import Callable, Dict, Iterator, List, Tuple
 
 if __name__ == "__main__":
     sys.dont_write_bytecode = True
@@ -57,7 +57,7 @@ def spelled(form: str, chance: random.Random, millis: int, frame: str) -> bytes:
                               b"<%012X80%s;" % (ticks, digits.encode()))) + end
     if form == "csv":
         return row(f"{millis // 1000}.{millis % 1000:03d}", digits)
-    return f"{millis} {chance.choice(('', '*'))}{digits}{chance.choice(('', ';'))}\n".encode()
+    return (f"{millis} {digits}\n" if chance.randrange(2) else f"{millis} *{digits};\n").encode()
 
 
 def harmed(data: bytes, chance: random.Random) -> bytes:
@@ -111,16 +111,11 @@ Rewrite = Callable[[bytes], bytes]
 SPACES = b"\t\x0b\x0c \x1c\x1d\x1e\x1f"
 NO_SPACE = bytes(ord("_") if byte in SPACES else byte for byte in range(256))
 ASCII = bytes(ord("_") if byte >= 0x80 or byte == 0 else byte for byte in range(256))
+MARK_ENDS = bytes(ord("\n") if byte in b"\xef\xbb\xbf" else byte for byte in range(256))
 
 
 def by_line(change: Rewrite) -> Rewrite:
     return lambda data: b"\n".join(map(change, data.split(b"\n")))
-
-
-def kept_spaces(line: bytes) -> bytes:
-    """Spaces are no longer stripped, nor are carriage returns but one at the end."""
-    end = line.endswith(b"\r")
-    return line[: len(line) - end].translate(NO_SPACE).replace(b"\r", b"_")
 
 
 def kept_ends(line: bytes) -> bytes:
@@ -129,11 +124,37 @@ def kept_ends(line: bytes) -> bytes:
     return line if line == line.strip() else b"_" + line
 
 
-def unquoted(line: bytes) -> bytes:
-    """A cell ends at each comma, and only quotes around it are left out."""
-    cells = line.removesuffix(b"\r").split(b",")
-    bare = [cell[1:-1] if len(cell) > 1 and cell[:1] == cell[-1:] == b'"' else cell for cell in cells]
-    return b",".join(cell.replace(b'"', b"_") for cell in bare)
+def wrapped(line: bytes) -> bytes:
+    """A star and a semicolon belong together: one without the other is damage."""
+    word = line.removesuffix(b"\r").partition(b" ")[2]
+    return line if word.startswith(b"*") == word.endswith(b";") else b"_" + line
+
+
+def cells_of(line: bytes) -> Iterator[bytes]:
+    """The cells of a row. A comma ends a cell, but for one between the quotes of a cell that begins with a quote."""
+    start, quoted = 0, False
+    for place, byte in enumerate(line + b","):
+        if byte == 0x22 and line[start : start + 1] == b'"':
+            quoted = not quoted
+        if byte == 0x2C and not quoted:
+            yield line[start:place]
+            start = place + 1
+    if quoted:
+        yield line[start:]
+
+
+def bare(line: bytes) -> bytes:
+    """Spaces around a cell are left out, and then quotes around it. Other quotes are bytes of the cell, and so are the
+    spaces within quotes."""
+    cells = []
+    for cell in cells_of(line.removesuffix(b"\r")):
+        cell = cell.strip(b" \t\n\r\f")
+        cell = cell[1:-1] if len(cell) > 1 and cell[:1] == cell[-1:] == b'"' else cell
+        for byte in (b'"', b",", b"\r"):
+            cell = cell.replace(byte, b"_")
+        text = cell.decode("latin-1")  # (whose strip takes more bytes for spaces)
+        cells.append(cell if text == text.strip() else b"_" + cell)
+    return b",".join(cells)
 
 
 def short(line: bytes) -> bytes:
@@ -151,17 +172,20 @@ RULES: Dict[str, Dict[str, Rewrite]] = {
     "beast": {},
     "avr": {
         "a carriage return ends a line": lambda data: data.replace(b"\r", b"\n"),
+        "each byte of a byte order mark ends a line": lambda data: data.translate(MARK_ENDS),
         "a bare frame may follow a semicolon": lambda data: data.replace(b";", b";\n"),
         SPACED: lambda data: data.translate(NO_SPACE),
         "a frame is found on a line of any length": by_line(marked),
     },
     "csv": {
-        SPACED: by_line(kept_spaces),
-        "a cell ends at each comma": by_line(unquoted),
+        "only spaces and quotes around a cell are left out": by_line(bare),
         "bytes that are not ASCII do no harm in another column": lambda data: data.translate(ASCII),
         "a row has at most 512 bytes": by_line(short),
     },
-    "log": {SPACED: by_line(kept_ends)},
+    "log": {
+        SPACED: by_line(kept_ends),
+        "a star and a semicolon belong together": by_line(wrapped),
+    },
 }
 
 

@@ -59,7 +59,7 @@ def while_opening() -> None:
         for number in ALL:
             with started([path]) as run:
                 end_by(run, number, number)
-                same((run.returncode, *run.communicate()), (0, b"", b"squitter-feed: 0 printed\n"))
+                same((run.returncode, *run.communicate()), (0, b"", b"squitter-feed: 0 written\n"))
         with started([path]) as run:
             wait_until(lambda: reading(path)(run.pid), "the pipe")
             with open(path, "wb", buffering=0) as pipe:
@@ -90,7 +90,7 @@ def while_connecting() -> None:
         with full_backlog() as port, started([f"127.0.0.1:{port}"]) as run:
             time.sleep(0.3)
             end_by(run, number, number, "while connecting")
-            same((run.returncode, *run.communicate()), (0, b"", b"squitter-feed: 0 printed\n"))
+            same((run.returncode, *run.communicate()), (0, b"", b"squitter-feed: 0 written\n"))
     with full_backlog() as port, started([f"127.0.0.1:{port}"]) as run:
         if run.stdout:
             run.stdout.close()
@@ -119,12 +119,12 @@ def while_reading() -> None:
                 end_by(run, number, number, words)
                 printed, said = run.communicate()
                 same((run.returncode, printed.count(b"\n")), (0, lines), data)
-                same(said, b"squitter-feed: %d printed\n" % lines)
+                same(said, b"squitter-feed: %d written\n" % lines)
 
 
 def numbers_of(said: bytes) -> Tuple[int, ...]:
     """How many lines were printed, not written and not saved, by a report."""
-    found = [re.search(rb"(\d+) " + word, said) for word in (b"printed", b"not written", b"not saved")]
+    found = [re.search(rb"(\d+) " + word, said) for word in (b"written", b"not written", b"not saved")]
     return tuple(int(one[1]) if one else 0 for one in found)
 
 
@@ -178,6 +178,72 @@ def while_output_is_full() -> None:
             same(log.read().count(b"\n"), 200, "all is saved")
 
 
+def is_full(pipe: int, process: int) -> bool:
+    """Whether a pipe takes no more of a process. How much it holds then depends on how its pages are filled."""
+    held = held_in(pipe)
+    time.sleep(0.3)
+    return held_in(pipe) == held > 4096 and is_waiting(process)
+
+
+def of_a_file_while_output_is_full() -> None:
+    """A file goes to a pipe in large pieces, which are never torn: not by a signal while the output is full, whatever
+    its reader took before."""
+    with tempfile.NamedTemporaryFile() as file:
+        file.write(LINE * 200_000)
+        file.flush()
+        for before in ((), (1,), (70_001, 3, 500_000, 4096, 1 << 20)):
+            reader, writer = os.pipe()
+            run = subprocess.Popen([FEED, file.name], stdout=writer, stderr=subprocess.PIPE)
+            os.close(writer)
+            printed = b""
+            try:
+                for number in before:
+                    wait_until(lambda: held_in(reader) >= min(number, 60_000), "more")
+                    printed += os.read(reader, number)
+                wait_until(lambda: is_full(reader, run.pid), "full")
+                expect(held_in(reader) > 500_000, "a large pipe holds", held_in(reader))
+                end_by(run, signal.SIGTERM, "while the output of a file is full")
+                while piece := os.read(reader, 1 << 20):
+                    printed += piece
+            finally:
+                run.kill()
+                os.close(reader)
+            said = run.stderr.read() if run.stderr else b""
+            same((run.returncode, set(printed.splitlines(True))), (0, {b"0 %s\n" % AIR_EVEN.encode()}), "torn lines")
+            expect(numbers_of(said)[0] == printed.count(b"\n") and numbers_of(said)[1] > 0, said)
+
+
+def in_large_pieces() -> None:
+    """Lines of a file are written in few pieces, to a file and to a pipe with room; those of a live source are not."""
+    found = runpy.run_path(FEED)
+    signals = SimpleNamespace(reader=os.pipe()[0], ended=False)
+    with tempfile.TemporaryFile() as file:
+        for number, is_recorded, count, most in ((file.fileno(), True, 20_000, 3), (file.fileno(), False, 20_000, 200),
+                                                 (os.pipe()[1], True, 20_000, 1), (os.pipe()[1], False, 1000, 10)):
+            sink, sizes, write = found["Sink"](number, signals), [], os.write
+            if is_recorded:
+                sink.record()
+                if number != file.fileno():
+                    same(fcntl.fcntl(number, fcntl.F_GETPIPE_SZ), 1 << 20, "the room of a pipe")
+            with mock.patch("os.write", lambda to, data: sizes.append(len(data)) or write(to, data)):
+                sink.write(LINE * count)
+            same((sum(sizes), sink.left, sink.fault), (len(LINE) * count, 0, None))
+            expect(len(sizes) <= most, is_recorded, len(sizes), "pieces")
+            expect(is_recorded or max(sizes) <= 4096, "pieces of", max(sizes))
+
+
+def all_that_is_left() -> None:
+    """All lines count that an output does not take, also those that come after it failed."""
+    sink = runpy.run_path(FEED)["Sink"]
+    reader, writer = os.pipe()
+    os.close(reader)
+    broken = sink(writer, SimpleNamespace(reader=os.pipe()[0], ended=False))
+    for count, left in ((2, 2), (3, 5), (1, 6)):
+        broken.write(LINE * count)
+        same((broken.left, type(broken.fault)), (left, BrokenPipeError))
+    os.close(writer)
+
+
 def second_signal() -> None:
     """A second signal ends a run at once, though it waits for what cannot be interrupted."""
     reader, writer = os.pipe()
@@ -210,7 +276,7 @@ def full_file() -> None:
     status, printed, said = ran(["-", "--save=/dev/full"], LINE * 3)
     same((status, printed.count("\n")), (3, 3))
     fault = "cannot write /dev/full: No space left on device"
-    same(said, f"squitter-feed: {fault}\nsquitter-feed: 3 printed, 3 not saved\n")
+    same(said, f"squitter-feed: {fault}\nsquitter-feed: 3 written, 3 not saved\n")
     status, printed, said = ran(["-", "--save=/dev/full", "--reorder=60000"], LINE * 3)
     same((status, printed.count("\n"), numbers_of(said.encode())), (3, 3, (3, 0, 3)), "held until the end")
     with tempfile.TemporaryDirectory() as work:
@@ -252,10 +318,10 @@ def saved_to_a_pipe() -> None:
             expect(line_of(run).endswith(AIR_EVEN.encode() + b"\n"), "a line that is not saved")
             same(run.wait(timeout=30), 3)
             said = run.communicate()[1].decode()
-        same(said, f"squitter-feed: cannot write {path}: Broken pipe\nsquitter-feed: 2 printed, 1 not saved\n")
+        same(said, f"squitter-feed: cannot write {path}: Broken pipe\nsquitter-feed: 2 written, 1 not saved\n")
         done = subprocess.run(["bash", "-c", f'"$0" {source} --save=>(cat > {work}/log) | wc -l; wait $!', FEED],
                               capture_output=True, text=True, timeout=30)
-        same((done.stdout.strip(), done.stderr), (str(count), f"{NO_TIMES}squitter-feed: {count} printed\n"))
+        same((done.stdout.strip(), done.stderr), (str(count), f"{NO_TIMES}squitter-feed: {count} written\n"))
         wait_until(lambda: os.path.getsize(f"{work}/log") == count * len(f"0 {AIR_EVEN}\n"), "all lines in the log")
 
 
@@ -394,7 +460,7 @@ def closed_while_waiting() -> None:
             same(run.wait(timeout=30), 0)
             saved = 3 if len(data) > 50 else 0
             left = f", {saved - printed} not written" if saved > printed else ""
-            same(reported(run), f"squitter-feed: {printed} printed{left}\n", words, data)
+            same(reported(run), f"squitter-feed: {printed} written{left}\n", words, data)
             with open(f"{work}/log", "rb") as log:
                 same(log.read().count(b"\n"), saved, words, data)
 

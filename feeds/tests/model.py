@@ -663,7 +663,7 @@ class Feed:
             (self.moments.begun_anew, "jumps of the clock"),
         ]
         counted = [f"{count} {what}" for count, what in parts if count]
-        return ", ".join([f"{self.printed - unwritten} printed", *counted]) + advice
+        return ", ".join([f"{self.printed - unwritten} written", *counted]) + advice
 
     def _begun(self, found: Type[Format]) -> List[str]:
         """The lines of the pieces by which the format was found, each with its own arrival."""

@@ -287,7 +287,7 @@ def no_clock() -> None:
     rows, feed, told = fed(late, True)
     same(
         ([moment for moment, _ in rows], told, feed.summary()),
-        ([10_000, 11_000, 12_000], [], "3 printed, 1 set aside; try --reorder=2000"),
+        ([10_000, 11_000, 12_000], [], "3 written, 1 set aside; try --reorder=2000"),
     )
 
 
@@ -304,7 +304,7 @@ def first_without_clock() -> None:
             for data in (of_beast, *of_text):
                 rows, feed, told = fed([(data, 5)], False)
                 same(rows, [(0, AIR_ODD)] * count + [(k, AIR_EVEN) for k in later], start, count)
-                same((feed.summary(), told), (f"{count + 5} printed", []), start, count)
+                same((feed.summary(), told), (f"{count + 5} written", []), start, count)
 
 
 def lost_connection() -> None:
@@ -316,12 +316,12 @@ def lost_connection() -> None:
     same((feed.feed.format, feed.feed.stranger), (None, None))
     lines += feed.hear(clocked(AIR_ODD, 96_000), 9000) + feed.hear(clocked(AIR_EVEN, 108_000), 9900)
     same([moment for moment, _ in rows_of(lines)], [5000, 6000, 7000, 11_000, 11_001])
-    same((feed.summary(), feed.refusal), ("5 printed, 1 damaged", None))
+    same((feed.summary(), feed.refusal), ("5 written, 1 damaged", None))
     half = Feed(Options(), True, print)
     lines = half.hear(b"nonsense", 0)
     half.disconnected()
     lines += half.hear(b"*%s;\n" % AIR_ODD.encode(), 7)
-    same((lines, half.refusal, half.summary()), (b"7 %s\n" % AIR_ODD.encode(), None, "1 printed, 1 damaged"))
+    same((lines, half.refusal, half.summary()), (b"7 %s\n" % AIR_ODD.encode(), None, "1 written, 1 damaged"))
 
 
 def cut_off() -> None:
@@ -329,14 +329,14 @@ def cut_off() -> None:
     e, o = AIR_EVEN.encode(), AIR_ODD.encode()
     csv = b"time,icao24,rawmsg\n" + row("1") * 3
     # Bytes, lines, damages, and the timestamp of a frame that comes 30 seconds later. A marked frame is whole at its
-    # semicolon. Before the third message of Beast the format is not known, and all is one damage.
+    # semicolon, and a message of Beast at its last byte.
     rows = [
         (b"*%s;\n*%s;" % (e, o), 2, 0, 31_000),
         (b"*%s;\n*%s" % (e, o[:9]), 1, 1, 31_000),
         (b"*%s;\n%s" % (e, o), 1, 1, 31_000),
         (beast(AIR_EVEN) * 3 + beast(AIR_ODD)[:-1], 3, 1, 31_000),
-        (beast(AIR_EVEN) * 2 + beast(AIR_ODD)[:-1], 0, 1, 31_000),
-        (beast(AIR_EVEN), 0, 1, 31_000),
+        (beast(AIR_EVEN) * 2 + beast(AIR_ODD)[:-1], 2, 1, 31_000),
+        (beast(AIR_EVEN), 1, 0, 31_000),
         (beast(AIR_EVEN)[:-1], 0, 1, 31_000),
         (csv + row("2", AIR_ODD).strip(), 3, 1, 31_000),
         (b"5 %s\n6 %s" % (e, o), 1, 1, 30_005),
@@ -354,19 +354,18 @@ def cut_off() -> None:
 
 
 def own_arrivals() -> None:
-    """Frames have the arrival of the piece they end in. The first three messages of Beast, which show the format, have
-    that of the third one, and a last line has that of its piece."""
+    """Frames have the arrival of the piece they end in, also the first ones. A last line has that of its piece."""
     feed = Feed(Options(), True, print)
     odd = beast(AIR_ODD)
     pieces = [(beast(AIR_EVEN), 1000), (odd[:9], 2000), (odd[9:], 31_000), (beast(GROUND), 62_000), (odd, 63_000)]
     lines = b"".join(feed.hear(piece, arrival) for piece, arrival in pieces)
-    same(rows_of(lines), [(62_000, AIR_EVEN), (62_000, AIR_ODD), (62_000, GROUND), (63_000, AIR_ODD)])
+    same(rows_of(lines), [(1000, AIR_EVEN), (31_000, AIR_ODD), (62_000, GROUND), (63_000, AIR_ODD)])
     feed = Feed(Options(), True, print)
     lines = feed.hear(b"*%s;\n%s" % (AIR_EVEN.encode(), AIR_ODD.encode()), 1000) + feed.end(31_000)
     same(rows_of(lines), [(1000, AIR_EVEN), (1000, AIR_ODD)], "a last line")
     feed = Feed(Options(), True, print)
     lines = feed.hear(beast(AIR_EVEN), 1000) + feed.hear(beast(AIR_ODD), 2000) + feed.end(31_000)
-    same(rows_of(lines), [(2000, AIR_EVEN), (2000, AIR_ODD)], "a short source")
+    same(rows_of(lines), [(1000, AIR_EVEN), (2000, AIR_ODD)], "a short source")
 
 
 def other_clock_again() -> None:
@@ -428,8 +427,8 @@ def order() -> None:
     equal = b"".join(b"7 %s\n" % frame.encode() for frame in FRAMES)
     same(fed([(equal + log(1), 0)], False, reorder=10)[0], [(1, AIR_EVEN), *((7, frame) for frame in FRAMES)])
     for reorder, advice in ((0, "; try --reorder=2000"), (1999, "; try --reorder=2000"), (2000, "")):
-        same(fed([(log(1000, 10**9), 0)], False, reorder=reorder)[1].summary(), f"1 printed, 1 set aside{advice}")
-        same(fed([(log(1000, 1001), 0)], False, reorder=reorder)[1].summary(), "2 printed")
+        same(fed([(log(1000, 10**9), 0)], False, reorder=reorder)[1].summary(), f"1 written, 1 set aside{advice}")
+        same(fed([(log(1000, 1001), 0)], False, reorder=reorder)[1].summary(), "2 written")
 
 
 def full_order() -> None:
@@ -439,7 +438,7 @@ def full_order() -> None:
             rows, feed, _ = fed([(log(*[6000] * count, 5500), 0)], False, reorder=reorder)
             same(len(rows), count + 1 - late, count)
             same(rows, sorted(rows), count)
-            same(feed.summary(), f"{count + 1 - late} printed" + (f", 1 late{advice}" if late else ""), count)
+            same(feed.summary(), f"{count + 1 - late} written" + (f", 1 late{advice}" if late else ""), count)
 
 
 def silence() -> None:
@@ -452,7 +451,7 @@ def silence() -> None:
     same(feed.hear(b"junk\n", 1300) + feed.due(1509), b"", "bytes without a frame are none that come")
     same((feed.due(1510), feed.wait(1510)), (log(900, 1000), None))
     same((feed.hear(log(950), 1520), feed.wait(1520), feed.due(2020), feed.late), (b"", 500, b"", 1))
-    same(feed.summary(), "2 printed, 1 late, 1 damaged; try --reorder=2000")
+    same(feed.summary(), "2 written, 1 late, 1 damaged; try --reorder=2000")
     file = Feed(Options(500), False, print)
     same((file.hear(log(1000), 1000), file.wait(9999), file.due(9999)), (b"", None, b""))
     several = Feed(Options(500), True, print)
@@ -467,15 +466,15 @@ def other_formats() -> None:
     for data in (b"".join(b"*%s;\n" % frame.encode() for frame in frames), b"".join(map(beast, frames))):
         rows, feed, _ = fed([(data, 5)], True)
         same([frame for _, frame in rows], [AIR_EVEN, AIR_ODD])
-        same(feed.summary(), "2 printed, 3 of other downlink formats (DF11 2, DF20 1), 1 of Mode A/C, 2 damaged")
+        same(feed.summary(), "2 written, 3 of other downlink formats (DF11 2, DF20 1), 1 of Mode A/C, 2 damaged")
         rows, feed, _ = fed([(data, 5)], True, all_formats=True)
         same([frame for _, frame in rows], [AIR_EVEN, REPLY, COMM_B, REPLY, AIR_ODD])
         same(fed([(data, 5)], True, all_formats=True, reorder=5)[0], rows, "by the order")
         others = "3 of other downlink formats (DF11 2, DF20 1) among them"
-        same(feed.summary(), f"5 printed, {others}, 1 of Mode A/C, 2 damaged")
+        same(feed.summary(), f"5 written, {others}, 1 of Mode A/C, 2 damaged")
     last = b"*%s;*%s;*%s;" % (b"FF" * 14, b"C0" * 14, b"B8" * 14)
-    for all_formats, wanted in ((False, "0 printed, 3 of other downlink formats (DF23 1, DF24 2)"),
-                                (True, "3 printed, 3 of other downlink formats (DF23 1, DF24 2) among them")):
+    for all_formats, wanted in ((False, "0 written, 3 of other downlink formats (DF23 1, DF24 2)"),
+                                (True, "3 written, 3 of other downlink formats (DF23 1, DF24 2) among them")):
         same(fed([(last, 0)], True, all_formats=all_formats)[1].summary(), wanted)
         same(fed([(last, 0)], True, all_formats=all_formats, reorder=5)[1].summary(), wanted)
 
@@ -546,6 +545,11 @@ def units() -> None:
         same(told_of(sorted(lines, key=lambda line: int(line.split()[0]))), said, "most of three aircraft", gaps)
     again = f"10000000000 {spaced(500)[0].split()[1]}\n"
     same(told_of([*spaced(500), again]), [], "a frame that comes again much later")
+    # Ten aircraft of a table in seconds, heard for four minutes, and again twelve hours later.
+    flights = [f"{start + 30 * number}.{plane} 8D40{plane:02X}1D58C382D690C8AC{start + number:06X}\n"
+               for start in (0, 43_200) for number in range(8) for plane in range(10)]
+    same(told_of(flights, "csv"), [], "twelve hours between two flights")
+    same(told_of([line.replace(".", "00") for line in flights]), [], "the same as a log")
     same(told_of(spaced(1), reorder=1000), seconds, "sorted")
     long = spaced(1, 30_000)
     same(told_of(long), seconds, "once, in a long log")
@@ -564,15 +568,71 @@ def units() -> None:
          "a clock has one unit")
 
 
+def clocks_of_other_kinds() -> None:
+    """GPS time in place of a count at 12 MHz is reported, and so are several clocks in one source."""
+    def recording(ticks: Sequence[int], **options: object) -> Tuple[bytes, str, List[str]]:
+        told: List[str] = []
+        feed = Feed(Options(**options), False, told.append)
+        data = b"".join(beast(AIR_EVEN[:22] + f"{number:06X}", count) for number, count in enumerate(ticks))
+        lines = feed.hear(data, 0) + feed.end(0)
+        return lines, feed.summary(), told
+
+    chance = random.Random(5)
+    # Seconds of the day in the upper 18 bits, nanoseconds in the lower 30: four frames a second.
+    gps = [second << 30 | nano for second in range(40_000, 40_100)
+           for nano in sorted(chance.randrange(10**9) for _ in range(4))]
+    counted = [12_000_000 * 89 * number + 12_000_000 * part * 22 for number in range(100) for part in range(4)]
+    told = ["the clock of this source seems to be GPS time, as a Radarcape sends it: set the receiver to 12 MHz, or "
+            "read its port with --arrival"]
+    same(recording(gps)[2], told)
+    same(recording(counted)[2], [], "a count at 12 MHz")
+    same(recording(gps[:199])[2], [], "too few frames")
+    same(recording(gps[:200])[2], told, "enough frames")
+    crowd = [second << 30 | nano for second in range(40_000, 40_049)
+             for nano in sorted(chance.randrange(10**9) for _ in range(5))]
+    same(recording(crowd)[2], [], "too few seconds")
+    same(recording([*crowd, 40_049 << 30 | 10**8])[2], told, "enough seconds")
+    for last, said in ((86_399, told), (86_400, [])):
+        same(recording([count + (last - 40_099 << 30) for count in gps])[2], said, last, "the last second")
+    same(recording(gps, by_arrival=True)[2],
+         ["all frames of this file have the timestamp 0, as without times: old ones pair with new"])
+    for nano, said in ((999_999_999, told), (1_000_013_000, []), (1_073_700_000, [])):
+        last = gps[203] >> 30 << 30 | nano
+        same(recording([*gps[:203], last, *gps[204:]])[2], said, nano, "nanoseconds")
+    # A second receiver's clock, an hour behind, has one message in three.
+    two = [12_000_000 * (7200 + number) - (12_000_000 * 3600) * (number % 3 == 2) for number in range(300)]
+    expect("try --arrival: the source seems to have several clocks" in recording(two)[1], recording(two)[1])
+    expect("try" not in recording(two, by_arrival=True)[1], recording(two, by_arrival=True)[1])
+    # Another connection, to a source of another kind, does not take that away.
+    feed = Feed(Options(), True, print)
+    feed.hear(b"".join(beast(AIR_EVEN, ticks) for ticks in two), 5000)
+    feed.disconnected()
+    feed.hear(b"9000 %s\n" % AIR_EVEN.encode(), 9000)
+    expect("try --arrival" in feed.summary(), feed.summary())
+    # Single jumps, five of 105 messages and of 104.
+    for count, said in ((105, "100 written, 5 set aside; try --reorder=2000"),
+                        (104, "99 written, 5 set aside; try --arrival: the source seems to have several clocks"),
+                        (24, "20 written, 4 set aside; try --reorder=2000")):
+        once = [12_000_000 * number for number in range(7200, 7200 + count)]
+        for place in range(4, 4 + 4 * (5 if count > 24 else 4), 4):
+            once[place] -= 12_000_000 * 60
+        same(recording(once)[1], said)
+
+
 def tables_without_rows() -> None:
-    """A table of milliseconds since 1970 has no row that can be read. It is refused, and one with a row is not."""
+    """A table of milliseconds since 1970 has no row that can be read. If all items are damaged, the summary says what
+    to try; one frame, or none at all, is no reason for it."""
     good, bad = f"1700000000.000,,{AIR_EVEN}\n", f"1700000000000,,{AIR_EVEN}\n"
-    said = "no row of this table has a frame, and a time in seconds of at most 12 digits"
-    for rows, refusal in ((bad, said), (bad * 3, said), (bad + good, None), (good + bad, None), (good, None)):
+    advice = ": try without --format; the times of a table are seconds"
+    for rows in (bad, bad * 3, bad + good, good + bad, good):
         lines, feed, _ = fed([(f"time,icao24,rawmsg\n{rows}".encode(), 5)], False)
-        same([str(feed.refusal) if feed.refusal else None, len(lines)], [refusal, rows.count(".000")], rows)
-    same(str(fed([(b"time,icao24,rawmsg\n1,,\n", 5)], False)[1].refusal), said, "an empty cell")
-    same(fed([(b"time,icao24,rawmsg\n", 5)], False)[1].refusal, None, "a table without rows")
-    # (a short frame of a downlink format of long ones)
+        same([feed.is_damaged, len(lines)], [good not in rows, rows.count(".000")], rows)
+        same(feed.summary().endswith(advice), feed.is_damaged, rows)
+        same(feed.refusal, None, rows)
+    same(fed([(b"time,icao24,rawmsg\n1,,\n", 5)], False)[1].summary(), f"0 written, 1 damaged{advice}", "an empty cell")
+    same(fed([(b"time,icao24,rawmsg\n", 5)], False)[1].summary(), "0 written", "a table without rows")
+    # (a short frame of a downlink format of long ones, and one of another format)
     _, feed, _ = fed([(f"*{AIR_EVEN[:14]};\n".encode(), 5)], False)
-    same((feed.feed.counts.found, feed.feed.counts.damaged, feed.refusal), (1, 1, None), "another format")
+    same(feed.summary(), f"0 written, 1 damaged{advice}", "another length")
+    _, feed, _ = fed([(f"*{AIR_EVEN[:14]};\n*{REPLY};\n".encode(), 5)], False)
+    same(feed.summary(), "0 written, 1 of other downlink formats (DF11 1), 1 damaged", "another format")

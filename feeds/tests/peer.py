@@ -212,7 +212,7 @@ def hour() -> None:
         same(frames_of(log), [frame for _, frame in rows], name)
         first = int(log.split()[0])
         same([int(line.split()[0]) - first for line in log.splitlines()], [moment - rows[0][0] for moment, _ in rows])
-        same(said, f"squitter-feed: {len(rows)} printed\n", name)
+        same(said, f"squitter-feed: {len(rows)} written\n", name)
 
 
 def restarted() -> None:
@@ -286,4 +286,4 @@ def harmed() -> None:
             said = reported(run)
     same(frames_of(log), [frame for _, frame in wanted])
     same(track(log), track(log_of(wanted)))
-    expect(f"{len(wanted)} printed, 3 damaged" in said, said)  # (the garbage is two pieces)
+    expect(f"{len(wanted)} written, 3 damaged" in said, said)  # (the garbage is two pieces)

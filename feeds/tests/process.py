@@ -32,7 +32,7 @@ def ran(words: List[str], data: bytes = b"") -> Tuple[int, str, str]:
     return done.returncode, done.stdout.decode(), done.stderr.decode()
 
 
-OF_TRACK = ("lat", "lon", "limit", "window", "format")
+OF_TRACK = ("lat", "lon", "limit", "window")
 
 
 def track(log: str, *words: str) -> str:
@@ -88,7 +88,7 @@ def files() -> None:
                 file.write(data)
             status, printed, said = ran([f"{work}/{name}"])
             same((status, printed), (0, log), name, "in a file")
-            same(said, f"squitter-feed: {len(rows)} printed\n", name)
+            same(said, f"squitter-feed: {len(rows)} written\n", name)
             status, printed, _ = ran(["-"], data)
             same(status, 0)
             same(track(printed), wanted, name, "by a pipe")
@@ -118,7 +118,7 @@ def refusals() -> None:
     """Statuses and texts: SBS, what is no feed, files that are not there, devices that are full, bad command lines."""
     status, printed, said = ran(["-"], b"MSG,3,1,1,4B1001,1,2026/11/23,22:00:00.000,,,,38000,,,52.1,4.2,,,0,0,0,0\n")
     expect((status, printed) == (1, "") and "SBS" in said and "30005" in said, said)
-    expect(said.startswith("squitter-feed: -: this is SBS"), said)
+    expect(said.startswith("squitter-feed: -: the input is SBS"), said)
     rows: List[Tuple[List[str], int, str]] = [
         (["/nonesuch"], 3, "cannot read /nonesuch: No such file or directory; a port is given as HOST:PORT"),
         (["localhost"], 3, "cannot read localhost: No such file or directory; a port is given as HOST:PORT"),
@@ -138,8 +138,9 @@ def refusals() -> None:
         ([], 2, "SOURCE"),
         (["a", "b"], 2, "usage"),
         (["-", "--reorder=-1"], 2, "milliseconds"),
+        (["-", "--format=json"], 2, "argument --format: invalid choice: 'json'"),
         (["-", "--leap=1.5"], 2, "milliseconds"),
-        (["-", "--lea=5"], 2, "\nusage: squitter-feed SOURCE [--reorder=MS]"),
+        (["-", "--lea=5"], 2, "\nusage: squitter-feed SOURCE [--format=NAME] [--reorder=MS]"),
         (["-", "--reorder="], 2, "milliseconds"),
         (["-", f"--leap={10**15}"], 2, "1000000000000000 is no number of milliseconds\n"),
         (["-", "--save=/nonesuch/log"], 3, "/nonesuch/log"),
@@ -180,6 +181,8 @@ def without_library() -> None:
         in_order = f"4 {AIR_ODD}\n5 {AIR_EVEN}\n6 5D40621D000000\n"
         with open(f"{work}/late", "w") as late:
             late.write(f"5 {AIR_EVEN}\n4 {AIR_ODD}\n6 5D40621D000000\n")
+        with open(f"{work}/jump", "w") as jump:
+            jump.write(f"5 {AIR_EVEN}\n99 {AIR_ODD}\n")
         with open(f"{work}/log.gz", "wb") as packed:
             packed.write(gzip.compress(log.encode()))
         installed = {**os.environ, "PYTHONPATH": f"{work}/stub", "PATH": f"{work}/programs:/usr/bin:/bin"}
@@ -199,8 +202,13 @@ def without_library() -> None:
             sorted_late = tried(feed, environment, "--all", "-", "--reorder=1", path=f"{work}/late")
             same(sorted_late, (0, in_order, "3 written\n"))
             same(tried(feed, environment, f"{work}/late", "--all")[1].split()[2], "5")
-            for words, what in ((["--save=x"], "--save"), (["--leap=5"], "--leap"), (["--arrival"], "--arrival"),
-                                (["--all", "--leap=5", "--save=x"], "--leap, --save")):
+            same(tried(feed, environment, f"{work}/jump", "--leap=93")[2], "1 written, 1 set aside\n")
+            same(tried(feed, environment, f"{work}/jump", "--leap=94")[2], "2 written\n")
+            same(tried(feed, environment, f"{work}/late", "--format=csv"),
+                 (1, "", "0 written, 3 damaged: try without --format; the times of a table are seconds\n"))
+            same(tried(feed, environment, f"{work}/late", "--arrival", "--reorder=1", "--all"),
+                 (0, in_order, "3 written\n"))
+            for words, what in ((["--save=x"], "--save"), (["--all", "--leap=5", "--save=x"], "--save")):
                 status, printed, said = tried(feed, environment, f"{work}/log", *words)
                 expect((status, printed) == (3, "") and said.startswith(f"squitter-feed: {what} needs "), said)
                 expect("python3-squitter" in said and "make -C clib" in said and said.count("\n") == 1, said)
@@ -290,7 +298,7 @@ def at_once() -> None:
             wait_for_more(run)
             run.send_signal(number)
             rest, said = run.communicate(timeout=30)
-            same((run.returncode, rest, said), (0, b"", b"squitter-feed: 1 printed, 1 damaged\n"), number)
+            same((run.returncode, rest, said), (0, b"", b"squitter-feed: 1 written, 1 damaged\n"), number)
             with open(f"{work}/log", "rb") as log:
                 same(log.read(), line)
             now = time.time_ns() // 1_000_000
@@ -307,7 +315,7 @@ def ends_well() -> None:
             run.stdout.close()
         same(
             (run.wait(timeout=30), reported(run)),
-            (0, "squitter-feed: 1 printed\n"),
+            (0, "squitter-feed: 1 written\n"),
             "a closed pipe while it waits",
         )
     ignoring = subprocess.Popen(
@@ -383,7 +391,7 @@ def cut_off() -> None:
                 link.close()
             run.send_signal(signal.SIGINT)
             rest, said = run.communicate(timeout=30)
-        expect(said.endswith(b"squitter-feed: 10 printed, 2 damaged\n") and not rest, said)
+        expect(said.endswith(b"squitter-feed: 10 written, 2 damaged\n") and not rest, said)
 
 
 def connects_again() -> None:
@@ -412,7 +420,7 @@ def connects_again() -> None:
             said += reported(run)
             link.close()
     same(re.findall(r"again in (\d+) s", said), ["1", "2", "1"], said)
-    expect("4 printed, 1 damaged" in said, said)
+    expect("4 written, 1 damaged" in said, said)
 
 
 def silent_port() -> None:
@@ -437,4 +445,4 @@ def silent_port() -> None:
         said = [process.communicate(timeout=30)[1] for process in (run, quiet)]
         for link in links:
             link.close()
-    same(said, [b"squitter-feed: 1 printed\n"] * 2)
+    same(said, [b"squitter-feed: 1 written\n"] * 2)

@@ -101,11 +101,12 @@ def which_rows() -> None:
     frame = AIR_EVEN.encode()
     for line in (csv_row(5), csv_row(5).lower(), b"1,,%s\n" % frame, b"1.5,x,%s,9,y z\r\n" % frame,
                  b'1,"x",%s\n' % frame, b"1,\xb5,%s\n" % frame, b'"1",x,"%s"\n' % frame,
-                 b"1,%s,%s\n" % (b"x" * 65, frame)):
+                 b"1,%s,%s\n" % (b"x" * 65, frame), b" 1\t,x,%s\n" % frame, b"1,x, %s \r\n" % frame,
+                 b'1,"x,y",%s\n' % frame, b'1,x"y,%s\n' % frame, b'1,"x ""y"", z",%s\n' % frame):
         same(split("csv", line), ([AIR_EVEN], 0), line)
-    # (spaces belong to a cell)
-    for line in (b" 1,x,%s\n", b".5,x,%s\n", b"1e5,x,%s\n", b"1,x, %s\n", b"1,x\n", b"1234567890123,x,%s\n",
-                 b"1,x,9%s\n", b'1,"x,y",%s\n'):
+    # (a quote that is not closed takes the rest of the row)
+    for line in (b"1 0,x,%s\n", b".5,x,%s\n", b"1e5,x,%s\n", b"1,x\n", b"1234567890123,x,%s\n", b"1,x,9%s\n",
+                 b'1,"x,%s\n', b'"1,x,%s\n', b'1, "x,y",%s\n'):
         data = line % frame if b"%s" in line else line
         same(split("csv", data), ([], 1), data)
     for column in (15, 16, 100):
@@ -120,9 +121,9 @@ def counted_once() -> None:
     mixed = b"".join(csv_row(k) + csv_row(k, REPLY) + b"x\n" for k in range(5000, 5100))
     rows, feed, told = fed([(mixed, 0)], False)
     same((len(rows), told), (100, []))
-    same(feed.summary(), "100 printed, 100 of other downlink formats (DF11 100), 100 damaged")
+    same(feed.summary(), "100 written, 100 of other downlink formats (DF11 100), 100 damaged")
     late = b"".join(csv_row(k) for k in (5000, 5001, 5002, 5001, 5003))
-    same(fed([(late, 0)], False)[1].summary(), "5 printed")
+    same(fed([(late, 0)], False)[1].summary(), "5 written")
 
 
 def fast() -> None:

@@ -25,6 +25,7 @@ UNDECIDED = 16_384  # bytes within which a source has to show its format
 LONGEST_LINE = 512
 AVR, BEAST, CSV, LOG = "AVR", "BEAST", "CSV", "LOG"
 STATUS = b"\x1a4" + bytes(range(1, 22))
+RECEIVER = b"\x1a\xe3" + bytes(range(8))
 
 
 def decided(pieces: Iterable[bytes], ends: bool = False) -> Tuple[object, int]:
@@ -60,16 +61,19 @@ def cut_anywhere(data: bytes) -> Tuple[object, int]:
 
 
 def told_apart() -> None:
-    """Formats are told apart after garbage too, by the last byte of the line or of the third message."""
+    """Formats are told apart after garbage too, by the last byte of the line or of the second message. The start of a
+    message shows Beast if nothing comes before it."""
     # Bytes, their format, and how many of them show it: a marked frame is whole at its semicolon.
     avr = [LINE, clocked(AIR_EVEN, 1), b"*0000;\n", b"\xef\xbb\xbf" + LINE]
     rows = [(data, AVR, len(data) - 1) for data in avr]
     rows += [(data, name, len(data)) for data, name in (
         (E + b"\n", AVR),
         (b"%s\n" % E[:14], AVR),
-        (beast(AIR_EVEN) + beast(REPLY) + beast("0000"), BEAST),
-        (beast(AIR_EVEN) + STATUS + beast(AIR_EVEN, 0x1A1A) + beast(REPLY), BEAST),
-        (beast("1A" * 14, 0x1A1A1A1A1A1A, 0x1A) * 3, BEAST),
+        (beast(AIR_EVEN) + beast(REPLY), BEAST),
+        (beast("0000") + beast("0000"), BEAST),
+        (beast(AIR_EVEN) + STATUS + beast(AIR_EVEN, 0x1A1A), BEAST),  # (a status between them is no damage)
+        (beast(REPLY) + RECEIVER + beast(AIR_EVEN), BEAST),  # (nor is the id of a receiver)
+        (beast("1A" * 14, 0x1A1A1A1A1A1A, 0x1A) * 2, BEAST),
         (row("1.5"), CSV),
         (b"time,icao24,rawmsg\n", CSV),
         (b"\xef\xbb\xbftime,icao24,rawmsg\n", CSV),
@@ -79,23 +83,26 @@ def told_apart() -> None:
     for data, wanted, size in rows:
         for front in (b"", GARBAGE):
             for after in (b"", LINE, b"5 %s\n" % E, beast(AIR_ODD) * 3, LINE + beast(AIR_ODD) * 3):
-                same(cut_anywhere(front + data + after), (wanted, len(front) + size), front + data)
+                shows = 2 if wanted == BEAST and not front else size
+                same(cut_anywhere(front + data + after), (wanted, len(front) + shows), front + data)
         if size == len(data) and data.endswith(b"\n"):
             same(decided([data[:-1]]), (None, len(data) - 1), data)
             expect(isinstance(decided([data[:-1]], ends=True)[0], int), data, "at the end")
 
 
 def not_yet() -> None:
-    """What only looks like a format does not decide it: two messages, three that are apart, a line that has bytes by
-    chance."""
+    """What only looks like a format does not decide it: after other bytes one message, or two that are apart; a line
+    that has bytes by chance; a start of unknown type."""
     one = beast(AIR_EVEN)
     rows = [
-        one * 2,
-        one * 2 + b"\x00" + one * 2,
-        one * 2 + one[:-1],
-        one * 2 + b"\x1a5" + one[2:],
-        one * 2 + b"\x1a\x1a" + one,
-        one + STATUS + one,  # (a status is no message)
+        b"x" + one,
+        b"x" + (one + b"\x00") * 3,
+        b"x" + one + one[:-1],
+        b"x" + one + b"\x1a5" + one[2:],
+        b"x" + one + b"\x1a\x1a" + one,
+        b"x" + one + STATUS,  # (a status is no message)
+        b"x" + one + RECEIVER,  # (nor is the id of a receiver)
+        *(b"\x1a" + bytes([kind]) + one[2:] for kind in (0x00, 0x1A, 0x30, 0x35, 0xE2, 0xE4)),
         b"xx *%s;\n" % E,  # (a marked frame shows AVR text at the start of a line)
         b"garbage \x1a1123456789 and more\n",
         b"\x00*%s;\n" % E,
@@ -111,18 +118,57 @@ def not_yet() -> None:
 
 
 def short_sources() -> None:
-    """A source that ends with one or two messages is Beast; after a cut one, or garbage, it is refused, and so is one
-    without any message."""
+    """A source that begins with the start of a message is Beast, whatever follows. After other bytes it is if it ends
+    with a message; after a cut one, or garbage, it is refused, and so is one without any message."""
     one, odd = beast(AIR_EVEN, 5), beast(AIR_ODD, 0x1A1A1A)
-    rows = [(one, 1), (one + odd, 2), (beast("0000"), 1), (STATUS + one, 1), (one + b"\x1a", 1), (b"x" + one, 1)]
+    for data in (one, one + odd[:-1], one + b"x" + odd, one[:-1], b"\x1a1", b"\x1a2", b"\x1a3x", STATUS, RECEIVER):
+        same(decided([data], ends=True), (BEAST, len(data)), data)
+        same(decided(byte_by_byte(data)), (BEAST, 2), data)
+    rows = [(one, 1), (beast("0000"), 1), (STATUS + one, 1), (one + b"\x1a", 1)]
     for data, found in rows:
-        same(decided([data], ends=True)[0], found, data)
+        same(decided([b"x" + data], ends=True)[0], found, data)
     # Damage begins the count of messages anew, so these show no format.
     for data in (one + odd[:-1], one + odd[:5], odd + odd[:6], one + b"x", one + b"\x1a9"):
-        expect("no frame" in str(decided([data], ends=True)[0]), data)
-    for data in (one[:-1], b"\x1a", b"x", b"\n", b"\x1a1" + bytes(8), STATUS):
+        expect("no frame" in str(decided([b"x" + data], ends=True)[0]), data)
+    for data in (b"x" + one[:-1], b"\x1a", b"x", b"\n", b"x\x1a1" + bytes(8), b"x" + STATUS):
         expect("no frame" in str(decided([data], ends=True)[0]), data)
     same(decided([], ends=True), (0, 0), "nothing")
+
+
+def nothing_is_lost() -> None:
+    """All bytes are read in the format that is found: messages before damage are printed, and damage is counted."""
+    one, odd = beast(AIR_EVEN, 12_000), beast(AIR_ODD, 24_000)
+    even_line, odd_line = b"1 %s\n" % E, b"2 %s\n" % AIR_ODD.encode()
+    both = even_line + odd_line
+    # Each third message lacks its escape.
+    cut = b"".join(one[1:] + beast(AIR_EVEN, 12_000 * number) + beast(AIR_EVEN, 12_000 * (number + 1))
+                   for number in range(1, 801, 2))
+    # A source, its lines, and how many items are damage.
+    rows = [
+        (one + odd + b"\x1a3\x00", both, 1),
+        (one + b"x" + odd, both, 1),
+        (b"x" + one + b"x" + odd * 3, even_line + odd_line * 3, 2),
+        (one[:9] + one + one[:12] + odd, both, 2),
+        (cut, b"".join(b"%d %s\n" % (number, E) for number in range(1, 801)), 400),
+        (b"x\n5 %sG\n" % E[:-1] + b"1 %s\n" % E, even_line, 2),
+        (b'{"a":1}\nMSG,3\n' + both, both, 2),
+    ]
+    for data, wanted, damage in rows:
+        for pieces in ([data], byte_by_byte(data)):
+            feed = Feed(Options(), False, lambda _: None)
+            lines = b"".join(feed.hear(piece, 0) for piece in pieces) + feed.end(0)
+            same((lines, feed.feed.counts.damaged), (wanted, damage), data)
+
+
+def ids_of_receivers() -> None:
+    """The ids that readsb sends before its messages are skipped and counted, also with escapes, and at the end."""
+    data = b"".join(RECEIVER + beast(AIR_EVEN, 12_000 * number) for number in range(1, 401)) + b"\x1a\xe3\x1a\x1a1"
+    feed = Feed(Options(), False, lambda _: None)
+    lines = feed.hear(data, 0) + feed.end(0)
+    same(lines, b"".join(b"%d %s\n" % (number, E) for number in range(1, 401)))
+    counts = feed.feed.counts
+    same((counts.found, counts.written, counts.receiver_ids, counts.damaged), (801, 400, 401, 0))
+    same(feed.summary(), "400 written, 401 receiver ids")
 
 
 def borders() -> None:
@@ -130,7 +176,7 @@ def borders() -> None:
     for size in (UNDECIDED - 1, UNDECIDED, UNDECIDED + 1):
         front = b"x" * (LONGEST_LINE + 1) + b"\n"
         text = front + b"x" * (size - len(front) - len(LINE)) + b"\n" + LINE.strip()
-        beasts = b"x" * (size - 3 * len(beast(AIR_EVEN))) + beast(AIR_EVEN) * 3
+        beasts = b"x" * (size - 2 * len(beast(AIR_EVEN))) + beast(AIR_EVEN) * 2
         for data, name in ((text, AVR), (beasts, BEAST)):
             for pieces in ([data], byte_by_byte(data), [data[:-1], data[-1:]], [data[:UNDECIDED], data[UNDECIDED:]]):
                 got, count = decided(pieces)
@@ -147,11 +193,12 @@ def borders() -> None:
 
 
 def fast() -> None:
-    """Searching is linear: 16 KiB byte by byte, of line feeds, escapes and starts of messages."""
-    for data in (b"\n", b"\x1a", b"\x1a1", b"\x1a1\x00\x00\x00\x00\x00\x00\x00\x00\x00", b"x", b"1234\n"):
-        whole = (data * UNDECIDED)[: UNDECIDED - 200]
+    """Searching is linear: 16 KiB byte by byte, of line feeds, semicolons, escapes and starts of messages."""
+    message = b"\x1a1\x00\x00\x00\x00\x00\x00\x00\x00\x00"
+    for data in (b"\n", b"\x1a", b"\x1a1", message, b"x", b"1234\n", b";", b"*0;", b"*" + b"0" * 8000 + b";"):
+        whole = b"x"[: len(data) < 8000] + (data * UNDECIDED)[: UNDECIDED - 200]
         begun = time.process_time()
-        same(decided(byte_by_byte(whole))[0], BEAST if len(data) == 11 else None, data)
+        same(decided(byte_by_byte(whole))[0], BEAST if data == message else None, data)
         if time.process_time() - begun >= 3:
             raise Late(f"{data!r} took {time.process_time() - begun} seconds")
 
@@ -172,9 +219,9 @@ def refused_by_name() -> None:
     with tarfile.open(fileobj=tar, mode="w") as archive:
         member = tarfile.TarInfo("feed.csv")
         member.size = 1000
-        archive.addfile(member, BytesIO(row("1") * 50))
+        archive.addfile(member, BytesIO(bytes(1000)))
     same({magic.hex().upper() for magic in squitter_unpack.REFUSED}, set(FOREIGN), "first bytes")
-    rows = [(bytes.fromhex(magic) + bytes(30), f"this is {text}") for magic, text in FOREIGN.items()]
+    rows = [(bytes.fromhex(magic) + bytes(30), f"the input is {text}") for magic, text in FOREIGN.items()]
     rows += [(tar.getvalue(), "a tar archive"), (b"MSG,3,1,1,4B1001,1,2026/11/23\n", "SBS"), (b"STA,,1\n", "SBS")]
     rows += [(b'{"hex":"40621d"}\n', "JSON"), ("5 8D".encode("utf-16"), "UTF-16")]
     for data, text in rows:
@@ -189,8 +236,8 @@ def refused_by_name() -> None:
 def tables() -> None:
     """A table that is not read is refused by what stands between its columns, or by the times that it lacks."""
     wanted = ": a table has rows of time,icao24,rawmsg, or names these columns in its first row"
-    semicolons, tabs = "this table has semicolons between its columns", "this table has tabs between its columns"
-    no_times, millis = "this table has no times in seconds", b"1700000000000,40621d,%s\n" % E
+    semicolons, tabs = "the table has semicolons between its columns", "the table has tabs between its columns"
+    no_times, millis = "the table has no times in seconds", b"1700000000000,40621d,%s\n" % E
     rows = [(b"time;icao24;rawmsg\n1.5;40621d;%s\n" % E, semicolons), (b"1.5;40621d;%s\n" % E.lower(), semicolons),
             (b'"rawmsg";"time"\r\n"%s";"1.5"\r\n' % E, semicolons), (b"%s;1.5\n" % E, semicolons),
             (b"time\ticao24\trawmsg\n1.5\t40621d\t%s\n" % E, tabs), (b"1.5\t\t%s\r\n" % E, tabs),
@@ -199,7 +246,8 @@ def tables() -> None:
             (b"# a comment\n\n" + millis * 3, no_times), (b"x\n" * 900 + millis, no_times)]
     others = [b"x\n" * 1100 + millis, b"icao24;lat;lon\n40621d;5;6\n", b"40621d,5,6\n", b"%s%s,5\n" % (E, E),
               b"rawmsg\n", b"xrawmsg,5\n", b"x *%s;\n" % E, b"x %s,5\n" % E, b"5,9%s\n" % E[1:]]
-    for data, what in rows + [(data, "no frame is in its first 16384 bytes") for data in others]:
+    no_frame = "no frame is in the first 16384 bytes: try --format=beast, avr, csv or log"
+    for data, what in rows + [(data, no_frame) for data in others]:
         said = f"{what}{wanted}" if data not in others else what
         for front in (b"", b"\xef\xbb\xbf"):
             whole = front + data
@@ -235,7 +283,7 @@ def byte_order_mark() -> None:
             same(heard(pieces), (wanted, None), data)
         status, printed, said = ran(["-"], mark + data)
         same((status, [line.split()[1] for line in printed.splitlines()]), (0, [AIR_EVEN, AIR_ODD]), data)
-        expect(said.endswith("squitter-feed: 2 printed\n"), data, said)
+        expect(said.endswith("squitter-feed: 2 written\n"), data, said)
 
 
 def heard(pieces: Iterable[bytes], live: bool = True) -> Tuple[bytes, Optional[str]]:
@@ -297,11 +345,11 @@ def by_process() -> None:
     same(whole.count("\n"), 5000)
     for name, pack in ARCHIVES.items():
         packed = pack(data)
-        same(ran(["-"], packed), (0, whole, "squitter-feed: 5000 printed\n"), name)
+        same(ran(["-"], packed), (0, whole, "squitter-feed: 5000 written\n"), name)
         status, printed, said = ran(["-"], packed[: len(packed) // 2])
         expect(status == 1 and f"the {name} archive ends early" in said, name, status, said)
         expect(whole.startswith(printed) and printed.count("\n") > (1000 if name != "bzip2" else -1), name)
-        expect(f": {printed.count(chr(10))} printed" in said, said)
+        expect(f": {printed.count(chr(10))} written" in said, said)
         harmed = bytearray(packed)
         harmed[len(packed) * 2 // 3] ^= 0x55
         status, printed, said = ran(["-"], bytes(harmed))
@@ -383,11 +431,12 @@ def too_large() -> None:
         packed[head + size - 4 : head + size] = struct.pack("<I", zlib.crc32(packed[head : head + size - 4]))
         same(heard([bytes(packed)]), wanted, code)
     same(heard([lzma.compress(LINE * 10, preset=9 | lzma.PRESET_EXTREME)]), whole, "the highest preset")
-    same(squitter_unpack.ROOM, 65_536)
+    room = max(kind.room for kind in squitter_unpack.PACKED.values())
+    same(room, 65_536)
     for name, pack in ARCHIVES.items():
         packed_zeros = pack(b"\n" * 50_000_000)
         sizes = [len(piece) for piece in Unpacking().pieces(packed_zeros)]
-        expect(max(sizes) <= squitter_unpack.ROOM and sum(sizes) == 50_000_000, name, max(sizes), sum(sizes))
+        expect(max(sizes) <= room and sum(sizes) == 50_000_000, name, max(sizes), sum(sizes))
 
 
 def never_well() -> None:

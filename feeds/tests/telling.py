@@ -39,13 +39,15 @@ class Raw(io.RawIOBase):
 
 
 def told_at_once() -> None:
-    """A report is there once it is told, and in one piece, though standard error is buffered."""
-    raw = Raw()
-    with mock.patch.object(sys, "stderr", io.TextIOWrapper(io.BufferedWriter(raw))):
-        squitter_words.tell("squitter-feed", "5 printed")
-        same(raw.writes, [b"squitter-feed: 5 printed\n"])
-        squitter_words.tell("squitter-geojson", "a: b")
-        same(raw.writes[1:], [b"squitter-geojson: a: b\n"])
+    """A report is there once it is told, and in one piece, whether standard error is buffered or not."""
+    for is_buffered in (True, False):
+        raw = Raw()
+        lower = io.BufferedWriter(raw) if is_buffered else raw
+        with mock.patch.object(sys, "stderr", io.TextIOWrapper(lower, write_through=not is_buffered)):  # type: ignore
+            squitter_words.tell("squitter-feed", "5 written")
+            same(raw.writes, [b"squitter-feed: 5 written\n"])
+            squitter_words.tell("squitter-geojson", "a: b")
+            same(raw.writes[1:], [b"squitter-geojson: a: b\n"])
 
 
 def outcome(words: List[str], data: bytes, full: bool = False) -> Tuple[int, List[str]]:
@@ -57,7 +59,7 @@ def outcome(words: List[str], data: bytes, full: bool = False) -> Tuple[int, Lis
 
 def which_first() -> None:
     """Of two errors the one that comes first is told, and the status is its own."""
-    held, two = "--reorder=60000", "squitter-feed: 0 printed, 2 not written"
+    held, two = "--reorder=60000", "squitter-feed: 0 written, 2 not written"
     of_source = "cannot read /nonesuch: No such file or directory; a port is given as HOST:PORT"
     of_save, of_output = "cannot write /nonesuch/log: No such file or directory", f"cannot write: {FULL}"
     table = gzip.compress(b"time,icao24,rawmsg\n" + b"".join(b"x,%d,\n" % (k * k) for k in range(3000)))
@@ -72,8 +74,8 @@ def which_first() -> None:
         (["-"], LOG, True, 3, [of_output, two]),
         # An archive ends early, and the table in it has no row that can be read.
         (["-"], table[:-9], False, 1, ["-: the gzip archive ends early", None]),
-        (["-"], table, False, 1, ["-: no row of this table has a frame, and a time in seconds of at most 12 digits",
-                                  "squitter-feed: 0 printed, 3000 damaged"]),
+        (["-"], table, False, 1, ["squitter-feed: 0 written, 3000 damaged: try without --format; the times of a table "
+                                  "are seconds"]),
     ]
     for words, data, full, status, wanted in rows:
         got, said = outcome(words, data, full)
@@ -151,10 +153,6 @@ def archives_without_library() -> None:
         for words, lines in (([], LOG), (["--all"], LOG + b"7 5D40621D000000\n")):
             done = subprocess.run([FEED, "-", *words], input=LOG + b"7 5D40621D000000\n", capture_output=True, env=bare)
             same((done.returncode, done.stdout), (0, lines), words)
-        # A leap below the default is an option too that `squitter feed` lacks.
-        for leap, wanted in ((600_000, 0), (599_999, 3), (600_001, 3), (0, 3)):
-            done = subprocess.run([FEED, path, f"--leap={leap}"], capture_output=True, env=bare)
-            same(done.returncode, wanted, leap)
 
 
 def other_libraries() -> None:
@@ -163,7 +161,7 @@ def other_libraries() -> None:
     old = {**os.environ, "LIBSQUITTER": "libc.so.6"}
     done = subprocess.run([FEED, "-"], input=LOG, capture_output=True, env=old)
     same((done.returncode, done.stdout, done.stderr), (0, LOG, b"2 written\n"))
-    done = subprocess.run([FEED, "-", "--leap=5"], input=LOG, capture_output=True, env=old)
+    done = subprocess.run([FEED, "-", "--save=/nonesuch/log"], input=LOG, capture_output=True, env=old)
     same((done.returncode, done.stdout), (3, b""))
     expect(b"libc.so.6 lacks squitter_" in done.stderr, done.stderr)
     with tempfile.TemporaryDirectory() as work:
@@ -174,7 +172,7 @@ def other_libraries() -> None:
         shutil.copytree(f"{TOP}/clib/squitter", f"{work}/clib/squitter")
         feed, system = f"{work}/feeds/squitter-feed", {**os.environ, "PYTHONPATH": f"{TOP}/clib"}
         done = subprocess.run([feed, "-", "--leap=5"], input=LOG, capture_output=True, env=system)
-        same((done.returncode, done.stdout, done.stderr), (0, LOG, b"squitter-feed: 2 printed\n"), "not built")
+        same((done.returncode, done.stdout, done.stderr), (0, LOG, b"squitter-feed: 2 written\n"), "not built")
         # Beside an installed script there may be a file of that name.
         shutil.rmtree(f"{work}/clib")
         with open(f"{work}/squitter", "w") as other:
@@ -202,15 +200,17 @@ def without_xz() -> None:
 
 def refused_at_the_end() -> None:
     """A source that shows no format until its end, or a table without a row, has status 1."""
-    for data in (b"x", b"\n", b"time,icao24,rawmsg\nx,,\n"):
+    for data in (b"x", b"\n"):
         status, printed, said = ran(["-"], data)
         same((status, printed), (1, ""), data, said)
         expect(said.startswith("squitter-feed: -: no ") and said.count("\n") == 2, said)
+    said = "squitter-feed: 0 written, 1 damaged: try without --format; the times of a table are seconds\n"
+    same(ran(["-"], b"time,icao24,rawmsg\nx,,\n"), (1, "", said))
 
 
 def misused() -> None:
     """A bad command line is told in two lines: what is wrong with what to do, and the usage."""
-    usage = "usage: squitter-feed SOURCE [--reorder=MS] [--leap=MS] [--arrival] [--all] [--save=FILE]\n"
+    usage = "usage: squitter-feed SOURCE [--format=NAME] [--reorder=MS] [--leap=MS] [--arrival] [--all] [--save=FILE]\n"
     rows: List[Tuple[List[str], str]] = [
         ([], "the following arguments are required: SOURCE; give - for standard input"),
         (["-", "--limit=5"], "unrecognized arguments: --limit=5; --limit is an option of squitter track"),

@@ -1,0 +1,77 @@
+"""What squitter-feed says is what `squitter feed` says: the same refusals and counts, read from the program."""
+from __future__ import annotations
+
+import subprocess
+import tarfile
+import tempfile
+from io import BytesIO
+from typing import List, Tuple
+
+from process import program, ran
+from squitter import Stranger
+from squitter._errors import STRANGERS
+from trying import AIR_EVEN, AIR_ODD, COMM_B, REPLY, beast, clocked, same
+
+MLAT = int.from_bytes(b"\xff\x00MLAT", "big")  # in the place of a clock
+
+
+def said_by_program(words: List[str], data: bytes) -> Tuple[int, str]:
+    """The status of `squitter feed` and what it says of a file."""
+    with tempfile.TemporaryFile() as file:
+        file.write(data)
+        file.seek(0)
+        done = subprocess.run([program(), "feed", *words], stdin=file, stdout=subprocess.DEVNULL,
+                              stderr=subprocess.PIPE, text=True, timeout=60)
+    return done.returncode, done.stderr
+
+
+def archive_of_tar() -> bytes:
+    tar = BytesIO()
+    with tarfile.open(fileobj=tar, mode="w") as archive:
+        archive.addfile(tarfile.TarInfo("feed.csv"))
+    return tar.getvalue()
+
+
+def refusals_alike() -> None:
+    """A source without frames is refused in the program's words, behind the source's name. Only of an archive the
+    program says less: it unpacks none."""
+    sources = {
+        Stranger.SBS: b"MSG,3,1,1,4B1001,1,2026/11/23,22:00:00.000,,,,38000,,,52.1,4.2,,,0,0,0,0\n",
+        Stranger.TAR: archive_of_tar(), Stranger.UTF16: f"5 {AIR_ODD}\n".encode("utf-16"),
+        Stranger.JSON: b'{"hex":"40621d"}\n', Stranger.NO_FRAME: b"x\n" * 5,
+        Stranger.PACKED: b"\x1f\x8b\x08" + bytes(99),
+    }
+    same(set(sources), set(Stranger), "sources")
+    for stranger, data in sources.items():
+        status, said = said_by_program([], data)
+        same((status, said), (1, f"{STRANGERS[stranger]}\n"), stranger)
+        if stranger is not Stranger.PACKED:
+            status, printed, told = ran(["-"], data)
+            same((status, printed, told.splitlines()[0]), (1, "", f"squitter-feed: -: {said.strip()}"), stranger)
+
+
+def counts_alike() -> None:
+    """The last line has the program's counts, and behind these what the program does not say."""
+    short = b"\x1a1" + bytes(6) + b"\x80\x12\x34"
+    messages = b"".join(beast(frame, 12_000 * at) for at, frame in enumerate([REPLY, REPLY, COMM_B, AIR_ODD, AIR_EVEN]))
+    others, reorder = "3 of other downlink formats (DF11 2, DF20 1)", "; try --reorder=2000"
+    cases: List[Tuple[List[str], bytes, str, str]] = [
+        ([], b"", "0 written", ""),
+        ([], messages, f"2 written, {others}", ""),
+        (["--all"], messages, "5 written", f", {others} among them"),
+        ([], short * 3 + beast(AIR_ODD, 12_000), "1 written, 3 of Mode A/C", ""),
+        ([], beast(AIR_ODD, MLAT) + beast(AIR_ODD), "1 written, 1 multilaterated", ""),
+        ([], b"\x1a\xe3" + bytes(8) + beast(AIR_ODD, 12_000), "1 written, 1 receiver ids", ""),
+        ([], b"".join(clocked(AIR_ODD, at) for at in (12_000, 24_000, 10**12, 36_000)), "3 written, 1 set aside",
+         reorder),
+        ([], f"*{AIR_ODD};\n*8D;\nxx\n".encode(), "1 written, 2 damaged", ""),
+        (["--reorder=1000"], f"9000 {AIR_ODD}\n8500 {AIR_ODD}\n5000 {AIR_ODD}\n".encode(), "2 written, 1 set aside",
+         reorder),
+    ]
+    for words, data, wanted, more in cases:
+        same(said_by_program(words, data), (0, f"{wanted}\n"), words, data)
+        with tempfile.NamedTemporaryFile() as file:
+            file.write(data)
+            file.flush()
+            status, _, said = ran([file.name, *words])
+        same((status, said), (0, f"squitter-feed: {wanted}{more}\n"), words, data)
