@@ -37,8 +37,10 @@ function squitterTextKind(first) {
  * time. */
 function squitterFeedOf({ Feed, FeedFormat, Stranger }, library, first) {
   // The first squitter may come later, so frames of all formats count. Mode A/C gives no lines.
-  const trial = new Feed(library, { allFormats: true }), lines = trial.takeText(first), { format, stranger } = trial;
+  const trial = new Feed(library, { allFormats: true }), lines = trial.takeText(first), { format } = trial;
   const isTimed = /^[1-9]/m.test(lines) || (format === FeedFormat.BEAST && !lines);
+  trial.finishText();
+  const { stranger } = trial;
   trial.close();
   const kind = {
     [Stranger.SBS]: "It is SBS (BaseStation) text, which has no frames.",

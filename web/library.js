@@ -28,7 +28,7 @@ const Stranger = Object.freeze({ SBS: 5, TAR: 6, PACKED: 7, UTF16: 8, JSON: 9, N
 const BYTES = Object.freeze({
   fault: 16, angle: 16, position: 32, degreesE7: 8, fields: 40, airHead: 12, groundHead: 12, altitude: 8, zones: 16,
   received: 24, lastFix: 40, side: 88, entry: 192, last: 16, heard: 40, block: 16, tracker: 16, present: 16, log: 16,
-  answer: 96, done: 16, tally: 16, feed: 16, order: 16, counts: 248,
+  answer: 96, done: 16, tally: 16, feed: 16, order: 16, counts: 256,
 });
 const AT = Object.freeze({
   fault: Object.freeze({ code: 0, second: 4, first: 8 }),
@@ -62,7 +62,9 @@ const AT = Object.freeze({
   tally: Object.freeze({ good: 0, refused: 8 }),
   feed: Object.freeze({ full: 0, at: 8 }),
   order: Object.freeze({ full: 0, at: 8 }),
-  counts: Object.freeze({ found: 0, written: 8, modeAc: 16, multilaterated: 24, damaged: 32, aside: 40, formats: 48 }),
+  counts: Object.freeze({
+    found: 0, written: 8, modeAc: 16, multilaterated: 24, receiverIds: 32, damaged: 40, aside: 48, formats: 56,
+  }),
 });
 const AIR_HEAD_MEMBERS = [
   ["address", 0, 4], ["altitude", 4, 2], ["ca", 6, 1], ["typeCode", 7, 1], ["status", 8, 1], ["flag", 9, 1],
@@ -162,9 +164,10 @@ function readCounts(view, at) {
     written: view.getBigUint64(at + 8, true),
     modeAc: view.getBigUint64(at + 16, true),
     multilaterated: view.getBigUint64(at + 24, true),
-    damaged: view.getBigUint64(at + 32, true),
-    aside: view.getBigUint64(at + 40, true),
-    formats: Array.from({ length: 25 }, (_, index) => view.getBigUint64(at + 48 + 8 * index, true)),
+    receiverIds: view.getBigUint64(at + 32, true),
+    damaged: view.getBigUint64(at + 40, true),
+    aside: view.getBigUint64(at + 48, true),
+    formats: Array.from({ length: 25 }, (_, index) => view.getBigUint64(at + 56 + 8 * index, true)),
   };
 }
 function writeFault(view, at, value) {
@@ -185,6 +188,35 @@ function writeLast(view, at, value) {
   view.setBigUint64(at + 8, value.heard, true);
 }
 const WINDOW = 10_000n;
+const FRAME_TEXT = "a frame text is 28 hexadecimal digits, bare or between * and ;";
+const POSITION = "a latitude is from -90 to 90 degrees, a longitude from -180 to 180, with at most 12 decimals";
+const HINTS = Object.freeze({
+  [Code.WRAP]: FRAME_TEXT, [Code.SHORT]: FRAME_TEXT, [Code.LENGTH]: FRAME_TEXT, [Code.DIGIT]: FRAME_TEXT,
+  [Code.NOT_DF17]: "only extended squitters (DF17) are read; skip other frames",
+  [Code.PARITY]: "the frame is damaged; skip it",
+  [Code.NOT_POSITION]: "the message is no position; only kinds AIR and GROUND are",
+  [Code.OTHER_ADDRESS]: "give two frames of one aircraft",
+  [Code.OTHER_KIND]: "give two airborne or two surface positions",
+  [Code.SAME_PARITY]: "give an even and an odd frame",
+  [Code.NO_SITE]: "give the receiver position as the site",
+  [Code.OUT_OF_RANGE]: "use newer frames, or a nearer reference",
+  [Code.ZONE_COUNTS]: "the frames lie on two sides of a zone border; use newer ones",
+  [Code.BAD_POSITION]: POSITION,
+  [Code.BAD_LATITUDE]: "a latitude is from -90 to 90 degrees, with at most 12 decimals",
+  [Code.BAD_ANGLE]: "an angle is from -360 to 360 degrees, with at most 12 decimals",
+  [Code.BAD_FIELDS]: "squitter.h has the range of each field",
+  [Code.BAD_FEET]: "feet are a multiple of 25 from -1000 to 50175",
+  [Code.BAD_PARITY]: "odd is 0 or 1",
+  [Code.NOT_A_NUMBER]: "an angle text is one to three digits, with an optional - before and decimals after",
+  [Code.TOO_MANY_DECIMALS]: "an angle text has at most 12 decimals",
+  [Code.ANGLE_RANGE]: "an angle is from -360 to 360 degrees",
+  [Code.MOMENT_BACK]: "timestamps must not decrease; sort the frames first, as an Order does",
+  [Code.TABLE_FULL]: "raise the limit",
+  [Code.NO_LIMIT]: "a limit is at least 1",
+  [Code.NO_TRACKER]: "it is closed",
+  [Code.NO_ADDRESS]: "an index is below the number of aircraft that are present",
+  [Code.BAD_ENTRY]: "the state was saved with other settings, or is damaged",
+});
 class Fault extends Error {
   constructor(message, code, first = 0n, second = 0) {
     super(message);
@@ -214,6 +246,11 @@ class Angle {
   }
   toJSON() {
     return `${this.num}/${this.den}`;
+  }
+}
+function refuseSettings(name, known, others) {
+  for (const other of Object.keys(others)) {
+    throw new TypeError(`a ${name} has no setting ${other}; its settings are ${known.join(", ")}`);
   }
 }
 function refuseOthers(head, others) {
@@ -376,7 +413,10 @@ class Memory {
     return text;
   }
   getFields(at) {
-    return new Fields(this.view(), at);
+    const fields = new Fields(this.view(), at);
+    if (fields.kind === Kind.OTHER) fields.lat = fields.lon = null;
+    if (fields.altitudeForm !== AltitudeForm.FEET) fields.feet = null;
+    return fields;
   }
   getZones(at) {
     return readZones(this.view(), at);
@@ -387,8 +427,8 @@ function ask(library, name, ...words) {
   exports[`squitter_${name}`](BigInt(faultAt), ...words);
   const view = library.memory.view();
   if (!view.getUint32(faultAt + AT.fault.code, true)) return;
-  const { code, first, second } = readFault(view, faultAt);
-  throw new Fault(library.faultText(code, first, second), code, first, second);
+  const { code, first, second } = readFault(view, faultAt), text = library.faultText(code, first, second);
+  throw new Fault(code in HINTS ? `${text}: ${HINTS[code]}` : text, code, first, second);
 }
 function angleAt(library, at) {
   const { num, den } = readAngle(library.memory.view(), at);
@@ -444,13 +484,14 @@ function bytesOf(piece) {
   throw new TypeError(`a piece is an ArrayBuffer or a view of one${hint}`);
 }
 const MOST_ADDRESSES = 1 << 20;
-function settingsOf({ window = WINDOW, limit = 1000, site = null }) {
+function settingsOf(name, { window = WINDOW, limit = 1000, site = null, ...others }) {
+  refuseSettings(name, ["window", "limit", "site"], others);
   const number = Number(whole(limit));
   if (number < 0 || number > MOST_ADDRESSES) throw new RangeError(`a limit is from 1 to ${MOST_ADDRESSES}`);
   return { window: moment(window), limit: number, site };
 }
 function listenerOf(owner, library, name, settings) {
-  const { memory } = library, { window, limit, site } = settingsOf(settings);
+  const { memory } = library, { window, limit, site } = settingsOf(name, settings);
   const here = site === null ? null : memory.exactPosition(site);
   return new Lent(owner, library, name, Number(memory.exports[`squitter_${name}_size`](limit)), (slot, block) => {
     if (here) memory.putPosition(memory.placeAt, here);
@@ -598,6 +639,15 @@ class Log {
     return text;
   }
 }
+function restored(tracker, state) {
+  try {
+    tracker.restore(state);
+  } catch (error) {
+    tracker.close();
+    throw error;
+  }
+  return tracker;
+}
 class Tracker {
   #listener;
   #library;
@@ -605,7 +655,7 @@ class Tracker {
   constructor(library, settings = {}) {
     this.#library = library;
     this.#listener = listenerOf(this, library, "tracker", settings);
-    const { window, limit, site } = settingsOf(settings);
+    const { window, limit, site } = settingsOf("tracker", settings);
     this.#settings = { window, limit, site: site && library.memory.exactPosition(site) };
   }
   hear(at, source) {
@@ -656,9 +706,8 @@ class Tracker {
     }
   }
   copy() {
-    const other = new Tracker(this.#library, this.#settings);
-    other.restore(this.save());
-    return other;
+    const state = this.save();
+    return restored(new Tracker(this.#library, this.#settings), state);
   }
   close() {
     this.#listener.close();
@@ -678,9 +727,8 @@ class Contact extends Tracker {
     return this.size ? this.present(0).moment : 0n;
   }
   copy() {
-    const other = new Contact(this.#library, this.#window, this.#site);
-    other.restore(this.save());
-    return other;
+    const state = this.save();
+    return restored(new Contact(this.#library, this.#window, this.#site), state);
   }
 }
 const SQUITTERS_AT_ONCE = 1024, LINES_ROOM = 1 << 16;
@@ -689,7 +737,9 @@ class Feed {
   #library;
   constructor(library, {
     format = FeedFormat.AUTO, leap = 600_000n, live = false, late = 0n, allFormats = false, byArrival = false,
+    ...others
   } = {}) {
+    refuseSettings("feed", ["format", "leap", "live", "late", "allFormats", "byArrival"], others);
     const { memory } = library, number = fitted(format, 32), longest = moment(leap), latest = moment(late);
     const flags = (live ? FEED_LIVE : 0) + (byArrival ? FEED_BY_ARRIVAL : 0) + (allFormats ? FEED_ALL_FORMATS : 0);
     this.#library = library;
@@ -985,7 +1035,7 @@ class Squitter {
     const { outAt } = this.memory;
     this.#ask("feet_of_field", fitted(typeCode, 8), fitted(field, 16), BigInt(outAt));
     const { form, feet } = readAltitude(this.memory.view(), outAt);
-    return { form, feet };
+    return { form, feet: form === AltitudeForm.FEET ? feet : null };
   }
   fieldOfFeet(feet) {
     const { outAt } = this.memory, number = whole(feet);

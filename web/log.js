@@ -316,8 +316,16 @@ class LogPanel {
       if (heard.trim()) this.hear(new Blob([heard]), "pasted text");
     };
     field.addEventListener("change", () => field.value === heard || hearText());
-    // The field has the pasted text only after the event.
-    field.addEventListener("paste", () => setTimeout(hearText));
+    field.addEventListener("paste", (event) => {
+      const text = event.clipboardData?.getData("text/plain");
+      if (!text) return;
+      // A browser takes minutes to put thousands of lines in the place of others, so it is not left to the browser.
+      event.preventDefault();
+      const { selectionStart: from, selectionEnd: to, value } = field, before = value.slice(0, from) + text;
+      field.value = before + value.slice(to);
+      field.setSelectionRange(before.length, before.length);
+      hearText();
+    });
   }
 }
 

@@ -36,18 +36,19 @@ export interface Place extends Position {
 /** A frame: its text, or its 14 bytes, which are copied. */
 export type Frame = string | ArrayBuffer | Uint8Array | Int8Array | Uint8ClampedArray | DataView;
 
-/** A squitter, field by field. A field that its kind lacks is 0; squitter.h gives the ranges. `raw` is text in JSON. */
+/** A squitter, field by field. A field that its kind lacks is 0, or null where 0 is a value: the code and the altitude.
+ * squitter.h gives the ranges. `raw` is text in JSON. */
 export interface Fields {
   /** Of kind other: the 56 bits of the message, ME. */
   raw: bigint;
   /** The ICAO address, below 2^24. */
   address: number;
-  /** The CPR code of the latitude, below 131072. */
-  lat: number;
-  /** The CPR code of the longitude, below 131072. */
-  lon: number;
-  /** In the air, where altitudeForm is FEET. */
-  feet: number;
+  /** The CPR code of the latitude, below 131072; null of kind other. */
+  lat: number | null;
+  /** The CPR code of the longitude, below 131072; null of kind other. */
+  lon: number | null;
+  /** In the air, where altitudeForm is FEET; null elsewhere. */
+  feet: number | null;
   /** In the air: the altitude field, 12 bits. */
   altitude: number;
   altitudeForm: AltitudeForm;
@@ -64,10 +65,10 @@ export interface Fields {
   track: number;
 }
 
-/** The meaning of an altitude field; `feet` is 0 in the other forms. */
+/** The meaning of an altitude field; `feet` is null in the other forms. */
 export interface Altitude {
   form: AltitudeForm;
-  feet: number;
+  feet: number | null;
 }
 
 /** The result for a frame: one of the seven kinds, the position if there is one, and the zone counts of a split. */
@@ -78,7 +79,8 @@ export interface Heard {
   odd: number;
 }
 
-/** The first error of a call. Its message is the library's text. */
+/** The first error of a call. Its message is the library's text, and after a colon what to do. The text alone is
+ * `faultText(code, first, second)`. */
 export declare class Fault extends Error {
   constructor(message: string, code: Code, first?: bigint, second?: number);
   readonly code: Code;
@@ -202,7 +204,7 @@ export declare class Squitter {
 
 /** The settings of a log or a tracker. `window` is in milliseconds (WINDOW by default). `limit` is the most aircraft at
  * once (1000 by default; below 0 or above 2^20 throws a RangeError). `site` is the receiver position, which surface
- * pairs need. */
+ * pairs need. Another setting throws a TypeError. */
 export interface Settings {
   window?: Whole;
   limit?: Whole;
@@ -245,7 +247,8 @@ export declare class Log {
   constructor(library: Squitter, settings?: Settings);
   /** Returns the results of the lines that end in this piece. A text counts as its UTF-8 bytes. Fault: NO_TRACKER. */
   take(piece: BufferSource | string): Answers;
-  /** Returns the result of the last line if it has no line feed. Fault: NO_TRACKER. */
+  /** Returns the result of the last line if it has no line feed. It ends the line and not the log: what is taken next
+   * begins a new line, with the next number. Fault: NO_TRACKER. */
   finish(): Answers;
   /** Returns the results of the lines that end in this piece, as text. Faults: NO_TRACKER, BAD_FORMAT. */
   takeText(piece: BufferSource | string, format?: Format): string;
@@ -304,7 +307,7 @@ export declare class Contact extends Tracker {
 /** The settings of a feed. `format` is AUTO by default. A gap above `leap` milliseconds (600000 by default) is a jump
  * of the source's clock. Arrival times count only if the source is `live`. A timestamp may be before the latest one by
  * `late` milliseconds (0 by default). With `allFormats`, frames of all downlink formats are written; with `byArrival`,
- * the receiver's clock is ignored. */
+ * the receiver's clock is ignored. Another setting throws a TypeError. */
 export interface FeedSettings {
   format?: FeedFormat;
   leap?: Whole;
@@ -327,6 +330,8 @@ export interface Counts {
   readonly written: bigint;
   readonly modeAc: bigint;
   readonly multilaterated: bigint;
+  /** Ids of receivers in a Beast stream, which are no frames. */
+  readonly receiverIds: bigint;
   readonly damaged: bigint;
   /** Squitters that were set aside because of their time. */
   readonly aside: bigint;
@@ -355,8 +360,8 @@ export declare class Feed {
   finishText(arrival?: Whole): string;
   /** The format of the source, or null if its bytes so far do not show one. Fault: NO_TRACKER. */
   readonly format: FeedFormat | null;
-  /** What the source is if it holds no frames of a known format, or null. Its first bytes or lines tell, or `finish`.
-   * Fault: NO_TRACKER. */
+  /** What the source is if it holds no frames of a known format, or null. It is known once 16,384 bytes show no
+   * format, or after `finish`. Fault: NO_TRACKER. */
   readonly stranger: Stranger | null;
   /** Drops an unfinished frame after a lost connection. The next piece belongs to a new one. Fault: NO_TRACKER. */
   disconnected(): void;

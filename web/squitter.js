@@ -18,8 +18,8 @@
  * in place of a whole number throws a TypeError. */
 
 import {
-  AIR_HEAD_MEMBERS, ANGLE_TEXT_BYTES, Code, FAULT_TEXT_BYTES, FRAME_BYTES, FRAME_DIGITS, GROUND_HEAD_MEMBERS,
-  readAltitude, readDegreesE7, writeFault,
+  AIR_HEAD_MEMBERS, ANGLE_TEXT_BYTES, AltitudeForm, Code, FAULT_TEXT_BYTES, FRAME_BYTES, FRAME_DIGITS,
+  GROUND_HEAD_MEMBERS, readAltitude, readDegreesE7, writeFault,
 } from "./squitter_layout.js";
 import { Memory, ask, angleAt, positionAt } from "./squitter_memory.js";
 import { AirHead, Fault, GroundHead, fitted, frameBytes, whole } from "./squitter_values.js";
@@ -209,13 +209,13 @@ export class Squitter {
     return readDegreesE7(this.memory.view(), outAt);
   }
 
-  /** Decodes an altitude field of 12 bits in an airborne position of this type code: its form, and feet or 0.
+  /** Decodes an altitude field of 12 bits in an airborne position of this type code: its form, and feet or null.
    * Fault: BAD_FIELDS. */
   feetOfField(typeCode, field) {
     const { outAt } = this.memory;
     this.#ask("feet_of_field", fitted(typeCode, 8), fitted(field, 16), BigInt(outAt));
     const { form, feet } = readAltitude(this.memory.view(), outAt);
-    return { form, feet };
+    return { form, feet: form === AltitudeForm.FEET ? feet : null };
   }
 
   /** Returns the altitude field for these feet, a multiple of 25 from -1000 to 50175. Fault: BAD_FEET. */

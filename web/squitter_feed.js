@@ -4,7 +4,7 @@ import {
   BYTES, FEED_ALL_FORMATS, FEED_BY_ARRIVAL, FEED_LIVE, FRAME_BYTES, FeedFormat, LINE_BYTES, readCounts, readDone,
 } from "./squitter_layout.js";
 import { Lent, PIECE_BYTES, ask, bytesOf } from "./squitter_memory.js";
-import { fitted, moment } from "./squitter_values.js";
+import { fitted, moment, refuseSettings } from "./squitter_values.js";
 
 const SQUITTERS_AT_ONCE = 1024, LINES_ROOM = 1 << 16;
 
@@ -14,14 +14,16 @@ export class Feed {
   #library;
 
   /** Creates a feed at the start of a source. `format` is one of FeedFormat. If it is AUTO, the first bytes show it:
-   * three Beast messages in a row, or a line with a frame. A gap above `leap` milliseconds is a jump of the source's
-   * clock. Arrival times count only if the source is `live`. A timestamp may be before the latest one by `late`
-   * milliseconds; with 0, timestamps never go back. With `allFormats`, frames of all downlink formats are written,
-   * those below 16 as seven bytes and seven zeros; otherwise those of format 17. With `byArrival`, the receiver's
-   * clock is ignored. Fault: BAD_FORMAT. */
+   * the start of a Beast message, or a line with a frame. The whole source is then read in that format. A gap above
+   * `leap` milliseconds is a jump of the source's clock. Arrival times count only if the source is `live`. A timestamp
+   * may be before the latest one by `late` milliseconds; with 0, timestamps never go back. With `allFormats`, frames
+   * of all downlink formats are written, those below 16 as seven bytes and seven zeros; otherwise those of format 17.
+   * With `byArrival`, the receiver's clock is ignored. Throws a TypeError for another setting. Fault: BAD_FORMAT. */
   constructor(library, {
     format = FeedFormat.AUTO, leap = 600_000n, live = false, late = 0n, allFormats = false, byArrival = false,
+    ...others
   } = {}) {
+    refuseSettings("feed", ["format", "leap", "live", "late", "allFormats", "byArrival"], others);
     const { memory } = library, number = fitted(format, 32), longest = moment(leap), latest = moment(late);
     const flags = (live ? FEED_LIVE : 0) + (byArrival ? FEED_BY_ARRIVAL : 0) + (allFormats ? FEED_ALL_FORMATS : 0);
     this.#library = library;
@@ -67,8 +69,8 @@ export class Feed {
     return number < FeedFormat.AUTO ? number : null;
   }
 
-  /** What the source is (Stranger) if it holds no frames of a known format, or null. Its first bytes or lines tell, or
-   * `finish`. Fault: NO_TRACKER. */
+  /** What the source is (Stranger) if it holds no frames of a known format, or null. It is known
+   * once 16,384 bytes show no format, or after `finish`. Fault: NO_TRACKER. */
   get stranger() {
     const number = this.#source();
     return number > FeedFormat.AUTO ? number : null;

@@ -127,7 +127,7 @@ export declare const FeedFormat: {
   readonly BEAST: 0;
   /** AVR text, with clocks or without. */
   readonly AVR: 1;
-  /** CSV: columns `time` (s) and `rawmsg`; if no header names them, columns 1 and 3. */
+  /** CSV: columns `time`, `mintime` or `timestamp` (s), and `rawmsg`; without a header 1 and 3. */
   readonly CSV: 2;
   /** A log: a timestamp (ms), a space and a frame on each line. */
   readonly LOG: 3;

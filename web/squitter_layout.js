@@ -43,7 +43,7 @@ export const Stranger = Object.freeze({ SBS: 5, TAR: 6, PACKED: 7, UTF16: 8, JSO
 export const BYTES = Object.freeze({
   fault: 16, angle: 16, position: 32, degreesE7: 8, fields: 40, airHead: 12, groundHead: 12, altitude: 8, zones: 16,
   received: 24, lastFix: 40, side: 88, entry: 192, last: 16, heard: 40, block: 16, tracker: 16, present: 16, log: 16,
-  answer: 96, done: 16, tally: 16, feed: 16, order: 16, counts: 248,
+  answer: 96, done: 16, tally: 16, feed: 16, order: 16, counts: 256,
 });
 
 /** The offset of each member of each struct in bytes. */
@@ -79,7 +79,9 @@ export const AT = Object.freeze({
   tally: Object.freeze({ good: 0, refused: 8 }),
   feed: Object.freeze({ full: 0, at: 8 }),
   order: Object.freeze({ full: 0, at: 8 }),
-  counts: Object.freeze({ found: 0, written: 8, modeAc: 16, multilaterated: 24, damaged: 32, aside: 40, formats: 48 }),
+  counts: Object.freeze({
+    found: 0, written: 8, modeAc: 16, multilaterated: 24, receiverIds: 32, damaged: 40, aside: 48, formats: 56,
+  }),
 });
 
 /** The name, offset and size of each member of squitter_air_head. */
@@ -207,9 +209,10 @@ export function readCounts(view, at) {
     written: view.getBigUint64(at + 8, true),
     modeAc: view.getBigUint64(at + 16, true),
     multilaterated: view.getBigUint64(at + 24, true),
-    damaged: view.getBigUint64(at + 32, true),
-    aside: view.getBigUint64(at + 40, true),
-    formats: Array.from({ length: 25 }, (_, index) => view.getBigUint64(at + 48 + 8 * index, true)),
+    receiverIds: view.getBigUint64(at + 32, true),
+    damaged: view.getBigUint64(at + 40, true),
+    aside: view.getBigUint64(at + 48, true),
+    formats: Array.from({ length: 25 }, (_, index) => view.getBigUint64(at + 56 + 8 * index, true)),
   };
 }
 

@@ -1,9 +1,9 @@
 /* squitter_memory.js: the memory of the module of squitter.js, and how calls find their arguments and results there. */
 
 import {
-  AT, Fields, What, readAngle, readFault, readZones, writeAngle, writeBlock,
+  AT, AltitudeForm, Fields, Kind, What, readAngle, readFault, readZones, writeAngle, writeBlock,
 } from "./squitter_layout.js";
-import { Angle, Fault, PAGE_BYTES, fitted, fraction } from "./squitter_values.js";
+import { Angle, Fault, HINTS, PAGE_BYTES, fitted, fraction } from "./squitter_values.js";
 
 /** The memory of the module, and the addresses of arguments and results, above the memory that the module uses. */
 export class Memory {
@@ -133,7 +133,11 @@ export class Memory {
   }
 
   getFields(at) {
-    return new Fields(this.view(), at);
+    const fields = new Fields(this.view(), at);
+    // 0 is a code and an altitude, so what a squitter lacks is null.
+    if (fields.kind === Kind.OTHER) fields.lat = fields.lon = null;
+    if (fields.altitudeForm !== AltitudeForm.FEET) fields.feet = null;
+    return fields;
   }
 
   getZones(at) {
@@ -148,8 +152,8 @@ export function ask(library, name, ...words) {
   const view = library.memory.view();
   // Only a fault is read as a whole, because a BigInt takes longer than the rest.
   if (!view.getUint32(faultAt + AT.fault.code, true)) return;
-  const { code, first, second } = readFault(view, faultAt);
-  throw new Fault(library.faultText(code, first, second), code, first, second);
+  const { code, first, second } = readFault(view, faultAt), text = library.faultText(code, first, second);
+  throw new Fault(code in HINTS ? `${text}: ${HINTS[code]}` : text, code, first, second);
 }
 
 export function angleAt(library, at) {

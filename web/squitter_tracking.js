@@ -5,13 +5,14 @@ import {
   writeLast,
 } from "./squitter_layout.js";
 import { Lent, PIECE_BYTES, ask, bytesOf, heardAt } from "./squitter_memory.js";
-import { WINDOW, fitted, moment, whole } from "./squitter_values.js";
+import { WINDOW, fitted, moment, refuseSettings, whole } from "./squitter_values.js";
 
 /** The most addresses of a log or a tracker: 755 megabytes. */
 const MOST_ADDRESSES = 1 << 20;
 
 /** Returns the settings of a log or a tracker, with the defaults. */
-function settingsOf({ window = WINDOW, limit = 1000, site = null }) {
+function settingsOf(name, { window = WINDOW, limit = 1000, site = null, ...others }) {
+  refuseSettings(name, ["window", "limit", "site"], others);
   const number = Number(whole(limit));
   if (number < 0 || number > MOST_ADDRESSES) throw new RangeError(`a limit is from 1 to ${MOST_ADDRESSES}`);
   return { window: moment(window), limit: number, site };
@@ -19,7 +20,7 @@ function settingsOf({ window = WINDOW, limit = 1000, site = null }) {
 
 /** Creates a log or a tracker of the library, with its memory. */
 function listenerOf(owner, library, name, settings) {
-  const { memory } = library, { window, limit, site } = settingsOf(settings);
+  const { memory } = library, { window, limit, site } = settingsOf(name, settings);
   // Reading the degrees of a text overwrites `outAt`, where the block is passed, so that comes first.
   const here = site === null ? null : memory.exactPosition(site);
   return new Lent(owner, library, name, Number(memory.exports[`squitter_${name}_size`](limit)), (slot, block) => {
@@ -104,8 +105,8 @@ export class Log {
   #columnRoom;
 
   /** Creates a log without lines. `window` is in milliseconds, WINDOW by default. `limit` is the most aircraft at once.
-   * `site` is the receiver position, which surface pairs need. Throws a RangeError for a limit below 0 or above 2^20.
-   * Faults: BAD_POSITION (the site), NO_LIMIT. */
+   * `site` is the receiver position, which surface pairs need. Throws a RangeError for a limit below 0 or above 2^20,
+   * and a TypeError for another setting. Faults: BAD_POSITION (the site), NO_LIMIT. */
   constructor(library, settings = {}) {
     this.#library = library;
     this.#listener = listenerOf(this, library, "log", settings);
@@ -123,7 +124,8 @@ export class Log {
     return this.#columns((hear) => this.#pieces(piece, (at, count) => hear("log_take", at, count)));
   }
 
-  /** Returns the result of the last line if it has no line feed, as columns. Fault: NO_TRACKER. */
+  /** Returns the result of the last line if it has no line feed, as columns. It ends the line and not the log: what is
+   * taken next begins a new line, with the next number. Fault: NO_TRACKER. */
   finish() {
     return this.#columns((hear) => hear("log_finish"));
   }
@@ -134,7 +136,8 @@ export class Log {
     return this.#text((hear) => this.#pieces(piece, (at, count) => hear("log_take_text", number, at, count)));
   }
 
-  /** Returns the result of the last line if it has no line feed, as text. Faults: NO_TRACKER, BAD_FORMAT. */
+  /** Returns the result of the last line if it has no line feed, as text; see `finish`. Faults: NO_TRACKER,
+   * BAD_FORMAT. */
   finishText(format = Format.LINES) {
     const number = fitted(format, 32);
     return this.#text((hear) => hear("log_finish_text", number));
@@ -215,6 +218,17 @@ export class Log {
   }
 }
 
+/** Gives a new tracker a state, and returns it. Frees the tracker if that fails. */
+function restored(tracker, state) {
+  try {
+    tracker.restore(state);
+  } catch (error) {
+    tracker.close();
+    throw error;
+  }
+  return tracker;
+}
+
 /** Positions of many aircraft from their frames, as `squitter track` decodes them. */
 export class Tracker {
   #listener;
@@ -222,12 +236,12 @@ export class Tracker {
   #settings;
 
   /** Creates an empty tracker. `window` is in milliseconds, WINDOW by default. `limit` is the most aircraft at once.
-   * `site` is the receiver position, which surface pairs need. Throws a RangeError for a limit below 0 or above 2^20.
-   * Faults: BAD_POSITION (the site), NO_LIMIT. */
+   * `site` is the receiver position, which surface pairs need. Throws a RangeError for a limit below 0 or above 2^20,
+   * and a TypeError for another setting. Faults: BAD_POSITION (the site), NO_LIMIT. */
   constructor(library, settings = {}) {
     this.#library = library;
     this.#listener = listenerOf(this, library, "tracker", settings);
-    const { window, limit, site } = settingsOf(settings);
+    const { window, limit, site } = settingsOf("tracker", settings);
     this.#settings = { window, limit, site: site && library.memory.exactPosition(site) };
   }
 
@@ -300,9 +314,8 @@ export class Tracker {
 
   /** Returns a tracker with the same settings and state. */
   copy() {
-    const other = new Tracker(this.#library, this.#settings);
-    other.restore(this.save());
-    return other;
+    const state = this.save();
+    return restored(new Tracker(this.#library, this.#settings), state);
   }
 
   /** Frees the memory. Safe to call twice. */
@@ -332,8 +345,7 @@ export class Contact extends Tracker {
 
   /** Returns a contact with the same settings and state. */
   copy() {
-    const other = new Contact(this.#library, this.#window, this.#site);
-    other.restore(this.save());
-    return other;
+    const state = this.save();
+    return restored(new Contact(this.#library, this.#window, this.#site), state);
   }
 }

@@ -68,7 +68,7 @@ function squitterCase({ AirHead, GroundHead }, library, { op, input }) {
     return ops[op]();
   } catch (error) {
     if (!error.code) throw error;
-    return { refused: error.message };
+    return { refused: library.faultText(error.code, error.first, error.second) };
   }
 }
 

@@ -1,11 +1,12 @@
-/* module.mjs check | track WINDOW [LAT LON] | names | refusals: web/squitter.js in Node, as a program that imports it.
- * `check` and `track` answer lines of standard input as the program does; `names` prints what the module has, for its
- * types to be held to; `refusals` tries what no frame spells. */
+/* module.mjs check | track WINDOW [LAT LON] | names | hints | refusals: web/squitter.js in Node, as a program that
+ * imports it. `check` and `track` answer lines of standard input as the program does; `names` prints what the module
+ * has, for its types to be held to; `hints` prints what faults say to do; `refusals` tries what no frame spells. */
 import { readFileSync } from "node:fs";
 import { setTimeout as waited } from "node:timers/promises";
 import { setFlagsFromString } from "node:v8";
 import { runInNewContext } from "node:vm";
 import * as squitter from "../../web/squitter.js";
+import { HINTS } from "../../web/squitter_values.js";
 
 const {
   load, AirHead, AltitudeForm, Angle, Code, Contact, Fault, Feed, FeedFormat, GroundHead, Kind, Log, Order,
@@ -15,12 +16,12 @@ const MODULE = readFileSync(new URL("../../dist/squitter.wasm", import.meta.url)
 const FRAME = "8D40621D58C382D690C8AC2863A7";
 const hexadecimal = (number, digits) => number.toString(16).toUpperCase().padStart(digits, "0");
 
-/** The words that a call comes to, or those of its fault. */
+/** The words that a call comes to, or those of its fault, without the hint. */
 function answered(call) {
   try {
     return call();
   } catch (error) {
-    if (error instanceof Fault) return error.message;
+    if (error instanceof Fault) return library.faultText(error.code, error.first, error.second);
     throw error;
   }
 }
@@ -223,7 +224,7 @@ const DEGREES = [
 ];
 
 /** Calls, each with the words of its error. */
-const HINTS = [
+const WORDS_OF_ERRORS = [
   [() => new Feed(library).takeText("5 x"),
     "a piece is an ArrayBuffer or a view of one; new TextEncoder().encode(text) makes one of a text"],
   [() => new Log(library).take(5), "a piece is an ArrayBuffer or a view of one"],
@@ -233,6 +234,13 @@ const HINTS = [
   [() => library.read(new Uint8Array(15)), "a frame has 14 bytes"],
   [() => new Tracker(library, { limit: 2 ** 20 + 1 }), "a limit is from 1 to 1048576"],
   [() => tracker.restore({ last: 5n, entries: new Uint8Array(193) }), "an entry has 192 bytes"],
+  [() => library.pair(FRAME, FRAME), "same parity: give an even and an odd frame"],
+  [() => library.read("0".repeat(28)), "not DF17 0: only extended squitters (DF17) are read; skip other frames"],
+  [() => library.zoneCount(91), "bad latitude: a latitude is from -90 to 90 degrees, with at most 12 decimals"],
+  [() => new Log(library, { sight: 1 }), "a log has no setting sight; its settings are window, limit, site"],
+  [() => new Tracker(library, { Limit: 1 }), "a tracker has no setting Limit; its settings are window, limit, site"],
+  [() => new Feed(library, { fromat: 1 }),
+    "a feed has no setting fromat; its settings are format, leap, live, late, allFormats, byArrival"],
   [() => library.zoneCount(undefined),
     'degrees are {num, den}, a BigInt, a number or a text such as "52.25", not undefined'],
 ];
@@ -257,7 +265,7 @@ function degrees() {
   if (near.lat.num !== exact.lat.num || near.lon.den !== exact.lon.den) throw new Error("a number is another place");
   const copy = new Contact(library, 10, { lat: "52.31", lon: 4.76 }).copy();
   if (!(copy instanceof Contact)) throw new Error("a contact with a site of numbers has no copy");
-  for (const [call, words] of HINTS) {
+  for (const [call, words] of WORDS_OF_ERRORS) {
     try {
       call();
     } catch (error) {
@@ -266,6 +274,25 @@ function degrees() {
     }
     throw new Error(`no error: ${words}`);
   }
+}
+
+/** Tests the fields that a squitter lacks: its code and its altitude are null, because 0 is one. */
+function lackedFields() {
+  const velocity = library.read("8D485020994409940838175B284F"), ground = library.read("8C4841753AAB238733C8CD4020B1");
+  const air = library.read(FRAME), none = library.read(library.encode(head({ altitude: 0 }), { lat: 0, lon: 0 }));
+  const sent = library.read(library.encode(head({ altitude: library.fieldOfFeet(0) }), { lat: 0, lon: 0 }));
+  const told = [velocity, ground, air, none, sent].map(({ kind, lat, lon, feet }) => [kind, lat, lon, feet]);
+  const wanted = [[0, null, null, null], [2, 115609, 116941, null], [1, 93000, 51372, 38000], [1, 0, 0, null],
+    [1, 0, 0, 0]];
+  if (JSON.stringify(told) !== JSON.stringify(wanted)) throw new Error(JSON.stringify(told));
+  const forms = [[11, 0], [11, 0xc38], [20, 0xc38]].map(([code, field]) => library.feetOfField(code, field).feet);
+  if (JSON.stringify(forms) !== "[null,38000,null]") throw new Error(JSON.stringify(forms));
+}
+
+/** Prints the hint of each fault. */
+function hints() {
+  const named = Object.entries(Code).filter(([, code]) => code in HINTS).map(([name, code]) => [name, HINTS[code]]);
+  console.log(JSON.stringify(Object.fromEntries(named)));
 }
 
 /** Frames of other bytes: part of a larger buffer, and changed after they were handed over. */
@@ -447,7 +474,7 @@ function eachField() {
   const altitude = library.fieldOfFeet(-300), place = { lat: 1, lon: 2 };
   const air = { address: 0x123456, ca: 3, typeCode: 18, status: 2, flag: 1, time: 0, odd: 1, altitude };
   const ground = { address: 0xABCDEF, ca: 6, typeCode: 7, movement: 100, trackStatus: 1, track: 90, time: 1, odd: 0 };
-  const none = { raw: 0n, feet: 0, altitude: 0, altitudeForm: AltitudeForm.NONE, time: 0, status: 0, flag: 0,
+  const none = { raw: 0n, feet: null, altitude: 0, altitudeForm: AltitudeForm.NONE, time: 0, status: 0, flag: 0,
     movement: 0, trackStatus: 0, track: 0 };
   const wanted = [{ ...none, ...air, kind: Kind.AIR, feet: -300, altitudeForm: AltitudeForm.FEET },
     { ...none, ...ground, kind: Kind.GROUND }];
@@ -514,7 +541,8 @@ function asJson() {
   } catch (error) {
     fault = error;
   }
-  const wanted = { name: "Fault", message: "parity 000001", code: Code.PARITY, first: "1", second: 0 };
+  const message = "parity 000001: the frame is damaged; skip it";
+  const wanted = { name: "Fault", message, code: Code.PARITY, first: "1", second: 0 };
   if (JSON.stringify(fault) !== JSON.stringify(wanted)) throw new Error(JSON.stringify(fault));
   // A result of a tracker too, and records within arrays.
   const tracker = new Tracker(library);
@@ -596,7 +624,7 @@ function formatsOfSources() {
   for (const [name, source] of Object.entries(strangers)) {
     const feed = new Feed(library, { format: FeedFormat.AUTO });
     feed.take(text(source));
-    if ((feed.stranger === null) !== (name === "NO_FRAME")) throw new Error(`${name} is known too late or too soon`);
+    if (feed.stranger !== null) throw new Error(`${name} is known before its end`);
     feed.finish();
     if (feed.stranger !== Stranger[name] || feed.format !== null) throw new Error(`${name} is ${feed.stranger}`);
     feed.close();
@@ -618,9 +646,10 @@ function feedsInPieces() {
       texts += other.finishText();
       if (lines !== LINES || texts !== LINES) throw new Error(`${name} by ${size}: ${lines} ${texts}`);
       for (const feed of [one, other]) {
-        const { found, written, modeAc, multilaterated, damaged, aside, formats } = feed.counts;
-        const counts = [found, written, modeAc, multilaterated, damaged, aside, formats.length, formats[11]].join(" ");
-        if (counts !== "6 4 0 0 1 0 25 1") throw new Error(`${name}: counts ${counts}`);
+        const { found, written, modeAc, multilaterated, receiverIds, damaged, aside, formats } = feed.counts;
+        const told = [found, written, modeAc, multilaterated, receiverIds, damaged, aside, formats.length, formats[11]];
+        const counts = told.join(" ");
+        if (counts !== "6 4 0 0 0 1 0 25 1") throw new Error(`${name}: counts ${counts}`);
         feed.close();
       }
     }
@@ -763,6 +792,7 @@ async function refusals() {
   manyAnswers();
   largeMomentsAndZones();
   degrees();
+  lackedFields();
   defaultFields();
   foreignBytes();
   keptWhole();
@@ -795,5 +825,5 @@ async function refusals() {
 }
 
 const [what, ...words] = process.argv.slice(2);
-const does = { check: () => answerLines(checked), track: () => answerLines(tracking(words)), names, refusals };
+const does = { check: () => answerLines(checked), track: () => answerLines(tracking(words)), names, hints, refusals };
 await does[what]();

@@ -39,6 +39,13 @@ def tracked_by_node(tries: Tries) -> str:
     return done.stdout.strip()
 
 
+def owners(tries: Tries) -> str:
+    """tests/browser/owners.mjs: closed and refused objects, and objects without memory, touch no memory of others."""
+    done = subprocess.run([*tries.node, f"{HERE}/owners.mjs"], capture_output=True, text=True)
+    expect(done.returncode == 0, done.stderr)
+    return done.stdout.strip()
+
+
 def in_workers(tries: Tries) -> str:
     """tests/browser/workers.mjs: four worker threads and the main one decode at once, each as one thread alone does."""
     done = subprocess.run([*tries.node, f"{HERE}/workers.mjs"], capture_output=True, text=True)
@@ -125,6 +132,21 @@ def declared(tries: Tries) -> str:
     missing = {name for name in every if camel(name) not in ours | {"Frame"}}
     expect(missing == OF_PYTHON_ALONE, "names of Python:", missing ^ OF_PYTHON_ALONE)
     return f"{count} names, and those of Python but {len(missing)}"
+
+
+def hints(tries: Tries) -> str:
+    """Each fault of a frame, a pair, a tracker or an argument says what to do, in JavaScript and in Python alike."""
+    told = json.loads(of_module(tries, "hints"))
+    block = re.search(r"^_OF_CODE.*?^}", read_text("clib/squitter/_errors.py"), re.M | re.S)
+    python = dict(re.findall(r'^    Code\.(\w+): "(.*)",$', block[0] if block else "", re.M))
+    differing = {name for name in python if told.get(name) != python[name]}
+    expect(len(python) == 15 and not differing, "other words for", differing)
+    enum = re.search(r"^class Code\(.*?\n\n\n", read_text("clib/squitter/_made.py"), re.M | re.S)
+    names = set(re.findall(r"^    ([A-Z_0-9]+) = ", enum[0] if enum else "", re.M))
+    # These occur in lines of a log, or not at all: JavaScript and Python make no such error of their own.
+    silent_codes = {"OK", "LONG_LINE", "BAD_MOMENT", "LONG_LOG", "NO_MEMORY", "BAD_FORMAT"}
+    expect(names - told.keys() == silent_codes, "without a hint:", names - told.keys() ^ silent_codes)
+    return f"{len(told)} faults"
 
 
 def vectors_by_node(tries: Tries) -> str:

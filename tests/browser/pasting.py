@@ -80,6 +80,53 @@ def pasted_again(browser: Chromium, text: str, wanted: bytes) -> None:
     expect(browser.evaluate("squitterLog.name") == "", "pasted text is decoded again as its field is left")
 
 
+# Notes how many milliseconds pass from the event of a paste to the start of its log.
+TIMED_PASTES = """(() => {
+  const open = squitterLog.open;
+  let begun = 0;
+  window.pastes = [];
+  document.addEventListener("paste", () => { begun = performance.now(); }, true);
+  squitterLog.open = (...words) => {
+    window.pastes.push(performance.now() - begun);
+    return open.apply(squitterLog, words);
+  };
+})()"""
+
+
+def pasted_over(tries: Tries) -> str:
+    """A log that is pasted over another is heard as soon as one that is pasted into an empty field. What is not
+    selected stays, and the cursor stands behind the text. A file on the clipboard is no text."""
+    browser, field = tries.page("log"), "document.getElementById('log-paste')"
+    granted(browser, *PERMISSIONS)
+    browser.evaluate(TIMED_PASTES)
+    for first in (1000, 2000):
+        log = "".join(f"{first + number} {AIR_EVEN}\n" for number in range(6000))
+        browser.evaluate("squitterLog.name = ''")
+        pasted_into(browser, "#log-paste", log)
+        browser.wait("squitterLog.name === 'pasted text'")
+        expect(heard(browser).startswith(b"1 waiting "), "no answers")
+        expect(browser.evaluate(f"{field}.value") == log, "the field has another text")
+    before, after = browser.evaluate("window.pastes")
+    expect(after < 5 * before + 500, "pasted over a log takes", after, "ms, and at first", before)
+    browser.evaluate(f"{field}.value = 'one\\ntwo\\nthree'; {field}.focus(); {field}.setSelectionRange(4, 7)")
+    browser.evaluate(f"navigator.clipboard.writeText('5 {AIR_ODD}')")
+    browser.evaluate("squitterLog.name = ''")
+    keys: Dict[str, Any] = {"key": "v", "code": "KeyV", "windowsVirtualKeyCode": 86, "modifiers": 2}
+    browser.call("Input.dispatchKeyEvent", type="keyDown", commands=["paste"], **keys)
+    browser.call("Input.dispatchKeyEvent", type="keyUp", **keys)
+    browser.wait("squitterLog.name === 'pasted text'")
+    heard(browser)
+    got = browser.evaluate(f"[{field}.value, {field}.selectionStart, {field}.selectionEnd]")
+    expect(got == [f"one\n5 {AIR_ODD}\nthree", 34, 34], got)
+    got = browser.evaluate(
+        f"(() => {{ const clipboardData = new DataTransfer(); clipboardData.items.add(new File(['x'], 'x.png'));"
+        f"const event = new ClipboardEvent('paste', {{ clipboardData, cancelable: true, bubbles: true }});"
+        f"return [{field}.dispatchEvent(event), {field}.value.length]; }})()")
+    expect(got == [True, 40], got)
+    silent(browser)
+    return f"6000 lines over 6000 in {after:.0f} ms, at first in {before:.0f} ms"
+
+
 def copied(tries: Tries) -> str:
     """The button of a frame copies it: by the clipboard, by a selection if that is refused, and if both are refused
     the frame is selected for the reader."""

@@ -55,6 +55,15 @@ function largeNumbers() {
   log.close();
 }
 
+/** After its end a log goes on with a new line, the next number, and what it has heard. */
+function afterFinish() {
+  const log = new Log(library), texts = [log.takeText(`5 ${FRAME}\nx`), log.finishText(), log.finishText()];
+  same(texts, ["1 waiting 40621D\n", "2 bad moment\n", ""], "the end of a log");
+  same([...log.take(`4 ${FRAME}\n7 ${FRAME}\n`).numbers], [3, 4], "numbers after the end");
+  same(log.tally, { good: 2n, refused: 2n }, "the tally after the end");
+  log.close();
+}
+
 /** Each column of a log has the numbers of its text, which does not depend on the pieces. */
 function columnsBesideText() {
   const whole = new Log(library, { site: HERE }), pieces = new Log(library, { site: HERE });
@@ -336,7 +345,7 @@ function edges() {
   }
 }
 
-const tests = [limits, largeNumbers, columnsBesideText, longAnswers, sitesOfTheirOwn, sitesOfTexts,
+const tests = [limits, largeNumbers, afterFinish, columnsBesideText, longAnswers, sitesOfTheirOwn, sitesOfTexts,
   ownBytes, sharedMemory, usualLeap, firstMoment, memoryUsedAgain, memoryExhausted, roomsExhausted,
   otherKinds, edges];
 for (const test of tests) test();
