@@ -1,7 +1,7 @@
 #!/bin/sh
-# live.sh: what no contract says of the built program's pipes and devices, for `check` and `track`. A line of a pipe
-# that stays open is answered within the second; a million lines pass in 8 and in 16 MiB of address space; a line of 100
-# MB takes no memory; a full disk and a closed pipe are status 3.
+# live.sh: what no contract says of the built program's pipes and devices, for `check` and `track`. A line of a pipe is
+# answered while the pipe stays open; a million lines pass in 8 and in 16 MiB of address space; a line of 100 MB takes
+# no memory; a full disk and a closed pipe are status 3.
 set -eu
 [ $# = 0 ] || { echo "live.sh: takes no words" >&2; exit 2; }
 here=$(cd "$(dirname "$0")" && pwd)
@@ -14,11 +14,17 @@ shown=0
 fail() { echo "failed: $1" >&2; exit 1; }
 seen() { shown=$((shown + 1)); }
 
-# is_live COMMAND LINE ANSWER: the line of a pipe that stays open
+# is_live COMMAND LINE ANSWER: the line of a pipe that stays open until the answer is there, or for a minute
 is_live() {
-    { echo "$2"; sleep 3; } | "$program" "$1" > "$work/live" &
-    sleep 1
-    [ "$(cat "$work/live")" = "1 $3" ] || fail "$1: a line of an open pipe is answered within the second"
+    rm -f "$work/pipe"
+    mkfifo "$work/pipe"
+    "$program" "$1" < "$work/pipe" > "$work/live" &
+    exec 3> "$work/pipe"
+    echo "$2" >&3
+    tries=0
+    while [ ! -s "$work/live" ] && [ "$tries" -lt 600 ]; do sleep 0.1; tries=$((tries + 1)); done
+    [ "$(cat "$work/live")" = "1 $3" ] || fail "$1: a line of an open pipe has no answer"
+    exec 3>&-
     wait
     seen
 }
