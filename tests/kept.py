@@ -17,14 +17,31 @@ FILES = {
     "crates/other/src/lib.rt": "pub fn four() -> u8 {\n    4\n}\n",
     "crates/more/src/lib.rt": "pub fn five() -> u8 {\n    5\n}\n",
 }
-# A stand-in for the prover. It counts its checks in the file `calls`, and prints the file `said`.
+SCRIPTS = ("tests/wrong-bodies", "tests/edits.py", "tests/fits.py")
+# A stand-in for the prover. It counts its checks in the file `calls`, and prints the file `said`, or follows `rule`.
 PROVER = """#!/bin/sh
 [ "$1" = version ] && exec cat "$TREE/version"
 echo check >> "$TREE/calls"
+[ ! -e "$TREE/rule" ] || exec sh "$TREE/rule"
 cat "$TREE/said"
 [ ! -s "$TREE/said" ]
 """
 REFUSED = "fn mid::two: no proof: expected 2 ≡ 2; `search` did not prove 3 ≡ 2\nlogic=not-proved\n"
+# A crate in which `six` relies on the contract of `five`, an edit of that contract, and an edit of the body of `six`.
+RELYING = {
+    "crates/mid/src/lib.rt": ("pub fn five() -> u8\n    ensures value { result ≡ 5 }\n{\n    5\n}\n\n"
+                              "pub fn six() -> u8\n    requires { 1 ≡ 1 }\n    ensures { result ≡ 6 }\n{\n"
+                              "    five() + 1\n}\n"),
+    "crates/mid/wrong-bodies/any_number.edit":
+        "file: src/lib.rt\nold:     ensures value { result ≡ 5 }\nnew:     ensures value { 5 ≡ 5 }\n",
+    "crates/mid/wrong-bodies/turned.edit": "file: src/lib.rt\nold:     five() + 1\nnew:     1 + five()\n",
+}
+# The prover refuses each function beside the other contract, and nothing beside its own.
+RULE = """grep -q '5 ≡ 5' src/lib.rt || exit 0
+for name in five six; do echo "fn mid::$name: no proof: expected 6 ≡ 6; \\`search\\` did not prove 3 ≡ 2"; done
+echo logic=not-proved
+exit 1
+"""
 
 
 class Tree:
@@ -32,11 +49,13 @@ class Tree:
 
     def __init__(self, folder: str) -> None:
         self.top = Path(folder)
+        self.top.mkdir(parents=True)
         for name, text in {**FILES, "version": "kit 1\n", "said": REFUSED, "calls": "", "bin/rt": PROVER}.items():
             self.put(name, text)
         (self.top / "bin/rt").chmod(0o755)
         (self.top / "tests").mkdir()
-        shutil.copy(TOP / "tests/wrong-bodies", self.top / "tests")
+        for name in SCRIPTS:
+            shutil.copy(TOP / name, self.top / name)
 
     def put(self, name: str, text: str) -> None:
         (self.top / name).parent.mkdir(parents=True, exist_ok=True)
@@ -52,8 +71,28 @@ class Tree:
         return f"{count} checks, {done.stdout.splitlines()[-1]}, status {done.returncode}"
 
 
+def of_contracts(folder: str) -> Iterator[str]:
+    """A body that is proved is told as proved, also beside an edit of a contract that it relies on, and without it."""
+    tree, kept = Tree(folder), f"--kept={folder}/notes"
+    (tree.top / "crates/mid/wrong-bodies/three.edit").unlink()
+    for name, text in {**RELYING, "rule": RULE}.items():
+        tree.put(name, text)
+    for wanted in ("2 checks, 1 passed, 1 failed, status 1", "1 checks, 1 passed, 1 failed, status 1"):
+        if (got := tree.says(kept)) != wanted:
+            yield f"beside an edit of a contract: {got}, where expected is: {wanted}"
+    (tree.top / "crates/mid/wrong-bodies/any_number.edit").unlink()
+    if (got := tree.says(kept)) != "1 checks, 0 passed, 1 failed, status 1":
+        yield f"without that edit: {got}"
+
+
 def differences(folder: str) -> Iterator[str]:
     """Runs the script below a folder. Yields each result that differs from the expected one."""
+    yield from of_notes(f"{folder}/notes")
+    yield from of_contracts(f"{folder}/contracts")
+
+
+def of_notes(folder: str) -> Iterator[str]:
+    """What is tried again: all whose check reads something else than before."""
     tree, kept = Tree(folder), f"--kept={folder}/notes/kept"
     good, known = "1 checks, 1 passed, 0 failed, status 0", "0 checks, 1 passed, 0 failed, status 0"
 

@@ -34,7 +34,6 @@ IMPORTS = {
     "clib/tests/test_archive.py": "numpy, dask, distributed",
     "clib/tests/test_batch.py": "numpy",
     "clib/tests/test_frames.py": "numpy",
-    "examples/archive.py": "numpy, dask, distributed",
 }
 
 
