@@ -9,12 +9,13 @@ _squitter_feed() {
         before=${COMP_WORDS[COMP_CWORD-2]}
     fi
     case $before in
+        --format) COMPREPLY=($(compgen -W "auto beast avr csv log" -- "$word")); return ;;
         --reorder | --leap) compopt +o default 2>/dev/null; return ;;
         # a file, which bash completes where this answers nothing
         --save | *[\<\>]) return ;;
     esac
     case $word in
-        -*) COMPREPLY=($(compgen -W "--reorder --leap --arrival --all --save --help --version" -- "$word")) ;;
+        -*) COMPREPLY=($(compgen -W "--format --reorder --leap --arrival --all --save --help --version" -- "$word")) ;;
     esac
 }
 

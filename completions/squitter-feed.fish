@@ -1,5 +1,6 @@
 # Completion of squitter-feed for fish.
 
+complete -c squitter-feed -l format -x -a 'auto beast avr csv log' -d 'Read this format'
 complete -c squitter-feed -l reorder -x -d 'Hold each frame and sort late frames in'
 complete -c squitter-feed -l leap -x -d 'Set frames aside that jump ahead by more'
 complete -c squitter-feed -l arrival -d 'Ignore the clock'

@@ -24,7 +24,7 @@ _squitter() {
         "track --limit" | "track --window" | "track --lat" | "track --lon")
             compopt +o default 2>/dev/null ;;
         "feed --format") names="auto beast avr csv log" ;;
-        "feed --reorder")
+        "feed --reorder" | "feed --leap")
             compopt +o default 2>/dev/null ;;
         *)
             # no command takes a file name
@@ -36,7 +36,7 @@ _squitter() {
                 pair) names="--lat --lon --help" ;;
                 check) names="--format --help" ;;
                 track) names="--format --limit --window --lat --lon --help" ;;
-                feed) names="--format --reorder --all --help" ;;
+                feed) names="--format --reorder --leap --arrival --all --help" ;;
                 help) [ "$COMP_CWORD" != 2 ] || names="show encode local pair check track feed" ;;
             esac
             if [ "$COMP_CWORD" = 1 ]; then

@@ -32,6 +32,44 @@ import zlib
 from dataclasses import dataclass, replace
 from typing import Any, List, Optional, Sequence, Tuple
 
+
+def parser_of() -> argparse.ArgumentParser:
+    """The parser of the command line."""
+    parser = argparse.ArgumentParser(description="what `squitter track` says to an archive of CSV, by many processes")
+    parser.add_argument("folder", help="where the answers go")
+    parser.add_argument("files", nargs="+", help="files of CSV in the order of their time, plain or .gz")
+    parser.add_argument("--lat", help="the site's latitude in degrees, for aircraft on the ground")
+    parser.add_argument("--lon", help="the site's longitude in degrees")
+    parser.add_argument("--window", type=int, default=10_000, help="as that of `track`, in milliseconds")
+    parser.add_argument("--workers", type=int, default=os.cpu_count() or 1, help="processes on this machine")
+    parser.add_argument("--scheduler", help="the address of a scheduler of Dask, in the place of these")
+    parser.add_argument("--parts", type=int, help="parts into which addresses are cut (2 for each process)")
+    parser.add_argument("--hours", type=int, help="files that are in memory at once (2 for each process)")
+    parser.add_argument("--parquet", action="store_true", help="write files of Parquet too")
+    return parser
+
+
+def words_of(words: Optional[Sequence[str]] = None) -> argparse.Namespace:
+    """The command line, as far as it can be judged without the modules below."""
+    parser = parser_of()
+    options = parser.parse_args(words)
+    if (options.lat is None) != (options.lon is None):
+        parser.error("a site is --lat and --lon")
+    if any(number is not None and number < 1 for number in (options.workers, options.parts, options.hours)):
+        parser.error("workers, parts and hours are numbers from 1")
+    if options.parquet and importlib.util.find_spec("pyarrow") is None:
+        parser.error("--parquet needs pyarrow, which is not installed")
+    names = [os.path.basename(path) for path in options.files]
+    if len(set(names)) < len(names):
+        parser.error("two files have one name")
+    if os.path.realpath(options.folder) in {os.path.realpath(os.path.dirname(path) or ".") for path in options.files}:
+        parser.error("the answers would take the place of the files: another folder is wanted")
+    return options
+
+
+if __name__ == "__main__":
+    words_of()  # Help and refused words need no module.
+
 NEEDED = {"numpy": "python3-numpy", "dask": "python3-dask", "distributed": "python3-distributed"}
 missing = [package for name, package in NEEDED.items() if importlib.util.find_spec(name) is None]
 if missing:
@@ -329,34 +367,18 @@ def hours(
 
 
 def options_of(words: Optional[Sequence[str]] = None) -> argparse.Namespace:
-    """The command line."""
-    parser = argparse.ArgumentParser(description="what `squitter track` says to an archive of CSV, by many processes")
-    parser.add_argument("folder", help="where the answers go")
-    parser.add_argument("files", nargs="+", help="files of CSV in the order of their time, plain or .gz")
-    parser.add_argument("--lat", type=squitter.angle, help="the site's latitude in degrees, for aircraft on the ground")
-    parser.add_argument("--lon", type=squitter.angle, help="the site's longitude in degrees")
-    parser.add_argument("--window", type=int, default=10_000, help="as that of `track`, in milliseconds")
-    parser.add_argument("--workers", type=int, default=os.cpu_count() or 1, help="processes on this machine")
-    parser.add_argument("--scheduler", help="the address of a scheduler of Dask, in the place of these")
-    parser.add_argument("--parts", type=int, help="parts into which addresses are cut (2 for each process)")
-    parser.add_argument("--hours", type=int, help="files that are in memory at once (2 for each process)")
-    parser.add_argument("--parquet", action="store_true", help="write files of Parquet too")
-    options = parser.parse_args(words)
-    if (options.lat is None) != (options.lon is None):
-        parser.error("a site is --lat and --lon")
-    if any(number is not None and number < 1 for number in (options.workers, options.parts, options.hours)):
-        parser.error("workers, parts and hours are numbers from 1")
-    if options.parquet and importlib.util.find_spec("pyarrow") is None:
-        parser.error("--parquet needs pyarrow, which is not installed")
-    names = [os.path.basename(path) for path in options.files]
-    if len(set(names)) < len(names):
-        parser.error("two files have one name")
-    if os.path.realpath(options.folder) in {os.path.realpath(os.path.dirname(path) or ".") for path in options.files}:
-        parser.error("the answers would take the place of the files: another folder is wanted")
+    """The command line, with angles in place of texts."""
+    options = words_of(words)
+    for name in ("lat", "lon"):
+        text = getattr(options, name)
+        try:
+            setattr(options, name, None if text is None else squitter.angle(text))
+        except ValueError as fault:
+            parser_of().error(f"argument --{name}: {fault}")
     try:
         batch.Tracker(options.window, site_of(options), None)
     except ValueError as fault:
-        parser.error(str(fault))
+        parser_of().error(str(fault))
     return options
 
 

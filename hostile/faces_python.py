@@ -33,8 +33,8 @@ def rows(path: str, window: int, site: Optional[squitter.Position], limit: int) 
     try:
         frame = batch.dataframe(path, window, site, limit)
     except ValueError:
-        # A log without a good line is refused if it begins like another format. So a good line is added, and its row
-        # is dropped.
+        # A log in which no line is good, nor any has a frame, is refused. So a good line is added, and its row is
+        # dropped.
         with open(path, "rb") as log:
             data = log.read() + GOOD
         frame = batch.dataframe(io.BytesIO(data), window, site, limit)[:-1]
