@@ -204,6 +204,7 @@ def refused_at_the_end() -> None:
         status, printed, said = ran(["-"], data)
         same((status, printed), (1, ""), data, said)
         expect(said.startswith("squitter-feed: -: no ") and said.count("\n") == 2, said)
+        expect(said.endswith("\nsquitter-feed: 0 written, 1 damaged\n"), "what to try is told once", said)
     said = "squitter-feed: 0 written, 1 damaged: try without --format; the times of a table are seconds\n"
     same(ran(["-"], b"time,icao24,rawmsg\nx,,\n"), (1, "", said))
 
