@@ -14,3 +14,11 @@ pub(crate) fn push_lines(feed: &mut Feed, piece: &[u8], arrival: u64, text: &mut
         }
     }
 }
+
+// Ends the source, and appends the lines of its last squitters, with those of rows that waited.
+pub(crate) fn push_last_lines(feed: &mut Feed, arrival: u64, text: &mut TextBuffer<1024>) {
+    feed.close();
+    push_lines(feed, b"", arrival, text);
+    feed.settle();
+    push_lines(feed, b"", arrival, text);
+}

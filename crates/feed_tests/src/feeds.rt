@@ -1,6 +1,6 @@
 //! Feeds of each format, by their lines and counts.
 use crate::RECORDED;
-use crate::fed::push_lines;
+use crate::fed::{push_last_lines, push_lines};
 use sq_digits::TextBuffer;
 use sq_feed::{Counts, Feed, Format, LINE_LIMIT, Manner, Timed, push_log_line};
 
@@ -14,6 +14,8 @@ fn lines(format: Format, source: &[u8]) -> TextBuffer<1024> {
     let mut text = TextBuffer::new();
     let mut feed = Feed::new(Some(format), &RECORDED);
     push_lines(&mut feed, source, 0, &mut text);
+    feed.settle();
+    push_lines(&mut feed, b"", 0, &mut text);
     text
 }
 
@@ -23,8 +25,7 @@ fn last_line(format: Format, source: &[u8]) -> TextBuffer<1024> {
     let mut feed = Feed::new(Some(format), &RECORDED);
     push_lines(&mut feed, source, 0, &mut text);
     let mut last = TextBuffer::new();
-    feed.close();
-    push_lines(&mut feed, b"", 0, &mut last);
+    push_last_lines(&mut feed, 0, &mut last);
     last
 }
 
@@ -183,10 +184,10 @@ fn each_item_is_counted_once(rt: HostRuntime) {
         0,
         &mut text,
     );
-    // a clock that jumps by 20 minutes
+    // a clock that jumps by two days
     push_lines(
         &mut feed,
-        b"\x1a3\0\x03\x5a\xe4\xd9\0\x80\x8d\x48\x40\xd6\x20\x2c\xc3\x71\xc3\x2c\xe0\x57\x60\x98",
+        b"\x1a3\x02\0\0\0\0\0\x80\x8d\x48\x40\xd6\x20\x2c\xc3\x71\xc3\x2c\xe0\x57\x60\x98",
         0,
         &mut text,
     );

@@ -1,6 +1,6 @@
 //! Feeds that find the format of their source, however it is cut.
 use crate::RECORDED;
-use crate::fed::push_lines;
+use crate::fed::{push_last_lines, push_lines};
 use sq_digits::TextBuffer;
 use sq_feed::{Feed, Format, Stranger};
 
@@ -31,8 +31,7 @@ fn lines(source: &[u8], size: usize) -> (TextBuffer<1024>, usize, u64) {
         push_lines(&mut feed, piece, 0, &mut text);
     }
     let shown = number(&feed);
-    feed.close();
-    push_lines(&mut feed, b"", 0, &mut text);
+    push_last_lines(&mut feed, 0, &mut text);
     let shown = if shown == 4 { number(&feed) } else { shown };
     let damaged = feed.counts().damaged();
     (text, shown, damaged)
@@ -199,9 +198,8 @@ fn sources_follow_each_other(rt: HostRuntime) {
         &mut text,
     );
     feed.close();
-    feed.close();
     let mut last = TextBuffer::<1024>::new();
-    push_lines(&mut feed, b"", 0, &mut last);
+    push_last_lines(&mut feed, 0, &mut last);
     assert!(rt; last.as_str() == "1000 8D4840D6202CC371C32CE0576098\n" && text.is_empty());
     push_lines(
         &mut feed,

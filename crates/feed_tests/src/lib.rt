@@ -1,4 +1,5 @@
-//! Tests of feeds: machines, clocks, times, counts, formats that are found, orders, and feeds of each format.
+//! Tests of feeds: machines, clocks, times, counts, formats that are found, orders, units of
+//! timestamps, and feeds of each format.
 #![tactic(auto)]
 
 mod fed;
@@ -12,6 +13,8 @@ mod machines;
 mod orders;
 #[cfg(test)]
 mod times;
+#[cfg(test)]
+mod units;
 
 // A recorded source: a gap above ten minutes is a jump, and timestamps never go back.
 const RECORDED: sq_feed::Manner = sq_feed::Manner {

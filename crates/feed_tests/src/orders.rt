@@ -9,12 +9,14 @@ struct Given {
     count: usize,
 }
 
-// Puts one squitter, with a frame of one number, and returns what is due.
+// Puts one squitter, with a frame of one number, and returns what is due. One that does not fit is 9 as a count.
 fn push(order: &mut Order, moment: u64, number: u8) -> Given {
-    if !order.is_due() {
-        order.put(&timed(moment, number));
+    let is_put = order.put(&timed(moment, number)).is_ok();
+    let mut given = pull(order, false);
+    if !is_put {
+        given.count = 9;
     }
-    pull(order, false)
+    given
 }
 
 // Returns what is due, or what is held.
@@ -50,7 +52,7 @@ fn timed(moment: u64, number: u8) -> Timed {
 
 #[test]
 fn squitters_in_order(rt: HostRuntime) {
-    let mut order = Order::new(25);
+    let mut order = Order::new(rt.alloc(), 25);
     assert!(rt; push(&mut order, 30, 1).count == 0);
     assert!(rt; push(&mut order, 10, 2).count == 0);
     assert!(rt; push(&mut order, 30, 3).count == 0);
@@ -63,10 +65,11 @@ fn squitters_in_order(rt: HostRuntime) {
     assert!(rt;
         three.count == 3 && three.moments == [20, 30, 30, 0] && three.numbers == [4, 1, 3, 0]
     );
-    // one that is late by more is given at once
-    let late = push(&mut order, 30, 8);
-    assert!(rt; late.count == 1 && late.moments == [30, 0, 0, 0] && late.numbers == [8, 0, 0, 0]);
-    assert!(rt; pull(&mut order, false).count == 0);
+    // one below the last timestamp given is late, and one at it is not
+    assert!(rt; push(&mut order, 29, 8).count == 0 && order.late() == 1 && order.held() == 3);
+    let same = push(&mut order, 30, 9);
+    assert!(rt; same.count == 1 && same.moments == [30, 0, 0, 0] && same.numbers == [9, 0, 0, 0]);
+    assert!(rt; pull(&mut order, false).count == 0 && order.late() == 1);
     let last = pull(&mut order, true);
     assert!(rt; last.count == 3 && last.moments == [34, 35, 55, 0] && last.numbers == [5, 6, 7, 0]);
     assert!(rt; order.held() == 0);
@@ -75,15 +78,16 @@ fn squitters_in_order(rt: HostRuntime) {
 
 #[test]
 fn without_a_delay_each_is_given(rt: HostRuntime) {
-    let mut order = Order::new(0);
+    let mut order = Order::new(rt.alloc(), 0);
     assert!(rt; push(&mut order, u64::MAX, 1).moments == [u64::MAX, 0, 0, 0]);
-    assert!(rt; push(&mut order, 0, 2).numbers == [2, 0, 0, 0]);
-    assert!(rt; order.held() == 0);
+    assert!(rt; push(&mut order, u64::MAX, 2).numbers == [2, 0, 0, 0]);
+    assert!(rt; push(&mut order, u64::MAX - 1, 3).count == 0);
+    assert!(rt; order.held() == 0 && order.late() == 1);
 }
 
 #[test]
 fn the_longest_delay(rt: HostRuntime) {
-    let mut order = Order::new(u64::MAX);
+    let mut order = Order::new(rt.alloc(), u64::MAX);
     assert!(rt; push(&mut order, 1, 1).count == 0);
     assert!(rt; push(&mut order, 0, 2).count == 0);
     let first = push(&mut order, u64::MAX, 3);
@@ -91,31 +95,61 @@ fn the_longest_delay(rt: HostRuntime) {
     assert!(rt; order.held() == 2);
 }
 
+// An order that grows holds as many as come, and gives them in order. The longest delay holds them until a flush.
 #[test]
-fn a_full_order_gives_the_first(rt: HostRuntime) {
-    let mut order = Order::new(u64::MAX);
-    for number in 0..4095u64 {
-        let none = push(&mut order, 10_000 - number, 7);
-        assert!(rt; none.count == 0);
+fn an_order_grows(rt: HostRuntime) {
+    let mut order = Order::new(rt.alloc(), u64::MAX);
+    for number in 0..10_000u64 {
+        assert!(rt; push(&mut order, 10_000 - number, 7).count == 0);
     }
-    assert!(rt; order.held() == 4095);
-    // the earliest of all is the new one, and then one that was held
-    let new = push(&mut order, 5000, 9);
-    assert!(rt; new.count == 1 && new.moments == [5000, 0, 0, 0] && new.numbers == [9, 0, 0, 0]);
-    let old = push(&mut order, 20_000, 9);
-    assert!(rt; old.count == 1 && old.moments == [5906, 0, 0, 0] && old.numbers == [7, 0, 0, 0]);
-    assert!(rt; order.held() == 4095);
+    assert!(rt; order.held() == 10_000);
+    let mut slot = Timed::default();
+    for moment in 1..10_001u64 {
+        assert!(rt; order.flush_into(&mut slot) && slot.moment == moment);
+    }
+    assert!(rt; order.held() == 0 && order.late() == 0 && !order.flush_into(&mut slot));
+}
+
+// A flush gives what is not due, as for a source that pauses. What comes below it is late.
+#[test]
+fn flushed_early(rt: HostRuntime) {
+    let mut order = Order::new(rt.alloc(), 100);
+    let mut slot = Timed::default();
+    assert!(rt; push(&mut order, 50, 1).count == 0 && push(&mut order, 60, 2).count == 0);
+    assert!(rt; order.flush_into(&mut slot) && slot.moment == 50);
+    assert!(rt; push(&mut order, 49, 3).count == 0 && order.late() == 1 && order.held() == 1);
+    assert!(rt; push(&mut order, 50, 4).count == 0 && order.late() == 1 && order.held() == 2);
+    let last = pull(&mut order, true);
+    assert!(rt; last.count == 2 && last.moments == [50, 60, 0, 0] && last.numbers == [4, 2, 0, 0]);
+}
+
+// A copy goes on where the order was: what it holds, what it gave, and how many were late.
+#[test]
+fn a_copy_goes_on(rt: HostRuntime) {
+    let mut order = Order::new(rt.alloc(), 10);
+    for moment in [20, 10, 31, 5, 25] {
+        let _ = push(&mut order, moment, 1);
+    }
+    assert!(rt; order.held() == 2 && order.late() == 1);
+    let Ok(mut copy) = order.copied_to(rt.alloc(), 3) else {
+        return;
+    };
+    assert!(rt; copy.held() == 2 && copy.late() == 1);
+    assert!(rt; push(&mut copy, 19, 2).count == 0 && copy.late() == 2);
+    let one = push(&mut copy, 35, 3);
+    assert!(rt; one.count == 1 && one.moments == [25, 0, 0, 0] && one.numbers == [1, 0, 0, 0]);
+    assert!(rt; order.held() == 2 && order.late() == 1);
 }
 
 #[test]
 fn a_slot_is_kept(rt: HostRuntime) {
-    let mut order = Order::new(10);
+    let mut order = Order::new(rt.alloc(), 10);
     let mut slot = timed(5, 9);
     assert!(rt; !order.is_due() && !order.give_into(&mut slot) && !order.flush_into(&mut slot));
     assert!(rt; push(&mut order, 1, 1).count == 0);
     assert!(rt; !order.give_into(&mut slot) && slot.moment == 5 && slot.frame == [9; 14]);
     // the first is due once a later one by the delay has come
-    order.put(&timed(11, 2));
+    assert!(rt; order.put(&timed(11, 2)).is_ok());
     assert!(rt; order.is_due() && order.give_into(&mut slot));
     assert!(rt; slot.moment == 1 && slot.frame == [1; 14]);
     assert!(rt; !order.is_due() && !order.give_into(&mut slot) && slot.moment == 1);
@@ -126,7 +160,7 @@ fn a_slot_is_kept(rt: HostRuntime) {
 
 #[test]
 fn many_squitters(rt: HostRuntime) {
-    let mut order = Order::new(1000);
+    let mut order = Order::new(rt.alloc(), 1000);
     let mut total = 0usize;
     let mut last = 0u64;
     for number in 0..20_000u64 {

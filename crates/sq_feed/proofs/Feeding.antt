@@ -1,6 +1,6 @@
 -- Feeds that go on.
 use Rattle.std.proofs.Common.{◌≡◌, ◌+◌, ◌-◌, ◌≤◌, ◌++◌, ◌∙◌, ℕ, List, [], ◌∷◌, length, take, drop, refl, sym, ap, subst}
-use Rattle.std.proofs.Common.{ap₂, append_assoc, append-nil, arith, take-add}
+use Rattle.std.proofs.Common.{append_assoc, append-nil, arith, take-add}
 use Rattle.std.specs.List.{flat_map}
 use Rattle.std.proofs.lemmas.List.{length-drop, take_all}
 use Rattle.sq_feed.specs.declared.message.Found.{Found}
@@ -10,7 +10,7 @@ use Rattle.sq_feed.specs.Feeds.{AreFed, Fed, Feeding, FeedsBoth, FeedsGoOn, Feed
 use Rattle.sq_feed.specs.Follows.{Follows}
 use Rattle.sq_feed.specs.Lines.{log_line}
 use Rattle.sq_feed.proofs.Sourced.{new_is_new}
-use Rattle.sq_feed.specs.Readers.{awaited, items_as}
+use Rattle.sq_feed.specs.Readers.{Reads, awaited, items_as}
 use Rattle.sq_feed.proofs.Following.{follows_more, follows_nothing}
 
 -- ---- several items
@@ -37,22 +37,43 @@ lines_of-append (x ∷ xs) ys =
 
 -- ---- feeds
 
+fed_nothing : (arrival : ℕ) (old : Feeding) → HasFed arrival old [] [] old
+fed_nothing arrival old =
+    record { same = refl; follows = follows_nothing (awaited old.reader); heard = refl }
+
 pub told_nothing : (arrival : ℕ) (old : Feeding) → HasTold arrival old [] [] old
 told_nothing arrival old = record {
   found = [];
-  fed = record { same = refl; follows = follows_nothing (awaited old.reader); heard = refl };
-  told_are = refl;
+  fed = fed_nothing arrival old;
+  told_are = sym (append-nil old.ready);
 }
 
--- an item was found, and these are its squitters
+-- the first squitter that was ready was given
+pub told_ready : (arrival : ℕ) (old new : Feeding) (bytes : List ℕ) (told : List Timed) → bytes ≡ []
+    → new.reader ≡ old.reader → new.ear ≡ old.ear → told ++ new.ready ≡ old.ready → HasTold arrival old bytes told new
+told_ready arrival old new bytes told none reader ear is =
+    subst (λ bs. HasTold arrival old bs told new) (sym none) (record {
+      found = [];
+      fed = record {
+        same = ap (λ (r : Reads). r.asked) reader;
+        follows = subst (λ (r : Reads). Follows (awaited old.reader) [] [] (awaited r)) (sym reader)
+            (follows_nothing (awaited old.reader));
+        heard = ear;
+      };
+      told_are = is ∙ sym (append-nil old.ready);
+    })
+
+-- an item was found while no squitter was ready, and these are its squitters
 pub told_one : (arrival : ℕ) (old new : Feeding) (bytes : List ℕ) (found : Found) (told : List Timed)
-    → new.reader.asked ≡ old.reader.asked → Follows (awaited old.reader) bytes (found ∷ []) (awaited new.reader)
-    → new.ear ≡ ear_after arrival old.ear found → told ≡ told_of arrival old.ear found
+    → old.ready ≡ [] → new.reader.asked ≡ old.reader.asked
+    → Follows (awaited old.reader) bytes (found ∷ []) (awaited new.reader)
+    → new.ear ≡ ear_after arrival old.ear found → told ++ new.ready ≡ told_of arrival old.ear found
     → HasTold arrival old bytes told new
-told_one arrival old new bytes found told same follows heard is = record {
+told_one arrival old new bytes found told none same follows heard is = record {
   found = found ∷ [];
   fed = record { same = same; follows = follows; heard = heard };
-  told_are = is ∙ sym (append-nil (told_of arrival old.ear found));
+  told_are = is ∙ sym (append-nil (told_of arrival old.ear found))
+      ∙ ap (λ l. l ++ told_of_all arrival old.ear (found ∷ [])) (sym none);
 }
 
 -- bytes, and more bytes with the same arrival
@@ -78,7 +99,11 @@ pub told_more : FeedsGoOn
 told_more arrival old mid new a b t u x y = record {
   found = x.found ++ y.found;
   fed = fed_on arrival old mid new a b x.found y.found x.fed y.fed;
-  told_are = ap₂ (λ l m. l ++ m) x.told_are y.told_are ∙ sym (told_on arrival old mid a x.found y.found x.fed);
+  told_are = append_assoc t u new.ready ∙ ap (λ l. t ++ l) y.told_are
+      ∙ sym (append_assoc t mid.ready (told_of_all arrival mid.ear y.found))
+      ∙ ap (λ l. l ++ told_of_all arrival mid.ear y.found) x.told_are
+      ∙ append_assoc old.ready (told_of_all arrival old.ear x.found) (told_of_all arrival mid.ear y.found)
+      ∙ ap (λ l. old.ready ++ l) (sym (told_on arrival old mid a x.found y.found x.fed));
 }
 
 -- the rest of a piece from an index on

@@ -17,5 +17,8 @@ pub mod Tallies
 pub mod Finds
 pub mod Sourced
 pub mod Ordering
+pub mod Rising
 pub mod Nearness
 pub mod Shown
+pub mod Waiting
+pub mod Watching

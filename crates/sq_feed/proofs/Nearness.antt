@@ -1,19 +1,20 @@
 -- Timestamps that stay near the latest one.
-use Rattle.std.proofs.Common.{◌≡◌, ◌≤◌, ◌+◌, ◌-◌, ◌∙◌, ◌++◌, ℕ, Bool, true, false, not, List, [], ◌∷◌, ap, arith, max, nat_le, nat_lt, refl, subst₂, sym}
-use Rattle.std.specs.Prelude.{◌==◌, ◌||◌, ◌&&◌, Option, Some, None, if◌then◌else◌}
+use Rattle.std.proofs.Common.{◌≡◌, ◌≤◌, ◌-◌, ◌∙◌, ◌++◌, ℕ, Bool, true, false, List, [], ◌∷◌, ap, arith, max, nat_le, refl, subst₂, sym}
+use Rattle.std.specs.Prelude.{Option, Some, None, if◌then◌else◌}
 use Rattle.std.proofs.lemmas.Bool.Decides.{nat_tests}
 use Rattle.sq_feed.specs.declared.counts.Fate.{Fate}
+use Rattle.sq_feed.specs.declared.dates.Dates.{Dates}
 use Rattle.sq_feed.specs.declared.message.Found.{Found}
 use Rattle.sq_feed.specs.declared.message.Found.TheVariants.{Whole, Damage, Foreign, ReceiverId}
-use Rattle.sq_feed.specs.declared.message.RawFrame.{RawFrame}
+use Rattle.sq_feed.specs.declared.message.Message.{Message}
 use Rattle.sq_feed.specs.declared.message.Time.{Time}
 use Rattle.sq_feed.specs.declared.message.Time.TheVariants.{Unknown, Ticks, Millis}
 use Rattle.sq_feed.specs.declared.message.Timed.{Timed}
-use Rattle.sq_feed.specs.Ears.{AreNear, Hears, StaysNear, ear_after, ear_after_all, ear_by, fate_of, latest_told}
-use Rattle.sq_feed.specs.Ears.{told_by, told_of, told_of_all, whole_of}
-use Rattle.sq_feed.specs.Times.{Timing, by_arrival, by_clock, by_own, clock_after, clock_moment, due, gone_on}
-use Rattle.sq_feed.specs.Times.{is_clock_told, is_clockless, is_row_fit, is_told_at, moment_at, row_agrees, times_after}
-use Rattle.sq_feed.specs.Times.{told_as}
+use Rattle.sq_feed.specs.Dates.{ended, gone_all, own, timed_all}
+use Rattle.sq_feed.specs.Ears.{AreNear, Hears, StaysNear, StaysNearAtEnd, ear_after, ear_after_all, ear_at, ear_by}
+use Rattle.sq_feed.specs.Ears.{fate_of, latest_told, row_judged, told_at, told_by, told_of, told_of_all, whole_of}
+use Rattle.sq_feed.specs.Times.{Timing, by_arrival, by_clock, by_ticks, clock_after, clock_moment, due, gone_on}
+use Rattle.sq_feed.specs.Times.{is_clock_told, is_clockless, is_ticks_told, ticks_moment, told_as}
 
 -- These frames have timestamps, and this is the state after them.
 record Goes (late latest : ℕ) (told : List Timed) (new : Timing) : Type 0 where
@@ -59,53 +60,14 @@ clock_goes false t ticks arrival frame =
     goes_if (is_clock_told t ticks arrival) t.late t.latest (record { moment = told_as t moment; frame = frame } ∷ [])
     (gone_on heard moment arrival) aside (gone heard moment arrival frame) (stays aside)
 
-own_cases : (a b c d : Bool) (late latest : ℕ) (told : List Timed) (fit same first last next : Timing)
-    → Goes late latest told fit → Goes late latest [] same → Goes late latest [] first → Goes late latest told last
-    → Goes late latest [] next
-    → Goes late latest (if a || not b && c && d then told else [])
-    (if a then fit else (if b then same else (if not c then first else (if d then last else next))))
-own_cases true b c d late latest told fit same first last next p q r s u = p
-own_cases false true c d late latest told fit same first last next p q r s u = q
-own_cases false false false d late latest told fit same first last next p q r s u = r
-own_cases false false true true late latest told fit same first last next p q r s u = s
-own_cases false false true false late latest told fit same first last next p q r s u = u
-
-own_goes : (t : Timing) (moment arrival : ℕ) (frame : List ℕ)
+ticks_goes : (ticks : ℕ) (t : Timing) (arrival : ℕ) (frame : List ℕ)
     → Goes t.late t.latest
-    (if is_told_at t (Millis moment) arrival then record { moment = told_as t moment; frame = frame } ∷ [] else [])
-    (by_own t moment arrival)
-own_goes t moment arrival frame =
-    let fit = record t { is_dated = true; votes = 0 } in
-    let first = record t { aside = moment; votes = 1 } in
-    let last = record t { aside = moment } in
-    let next = record t { aside = moment; votes = t.votes + 1 } in
-    own_cases (is_row_fit t moment) (nat_lt moment t.latest) (row_agrees t moment) (t.votes == 2) t.late t.latest
-    (record { moment = told_as t moment; frame = frame } ∷ []) (gone_on fit moment arrival) t first
-    (gone_on last moment arrival) next (gone fit moment arrival frame) (stays t) (stays first)
-    (gone last moment arrival frame) (stays next)
+    (if is_ticks_told t ticks arrival
+    then record { moment = told_as t (ticks_moment t ticks arrival); frame = frame } ∷ [] else [])
+    (by_ticks t ticks arrival)
+ticks_goes ticks t arrival frame = clock_goes (is_clockless t ticks) t ticks arrival frame
 
-time_goes : (time : Time) (t : Timing) (arrival : ℕ) (frame : List ℕ)
-    → Goes t.late t.latest
-    (if is_told_at t time arrival then record { moment = moment_at t time arrival; frame = frame } ∷ [] else [])
-    (times_after t time arrival)
-time_goes Unknown t arrival frame = gone t (due t arrival) arrival frame
-time_goes (Ticks ticks) t arrival frame = clock_goes (is_clockless t ticks) t ticks arrival frame
-time_goes (Millis moment) t arrival frame = own_goes t moment arrival frame
-
--- ---- items
-
-fate_goes : (fate : Option Fate) (arrival : ℕ) (ear : Hears) (time : Time) (frame : RawFrame)
-    → Goes ear.times.late ear.times.latest (told_by fate arrival ear time frame) (ear_by fate arrival ear time).times
-fate_goes (Some fate) arrival ear time frame = stays ear.times
-fate_goes None arrival ear time frame = time_goes time ear.times arrival (whole_of frame)
-
-item_goes : (arrival : ℕ) (ear : Hears) (item : Found)
-    → Goes ear.times.late ear.times.latest (told_of arrival ear item) (ear_after arrival ear item).times
-item_goes arrival ear (Whole message) =
-    fate_goes (fate_of ear.all_formats message.time message.frame) arrival ear message.time message.frame
-item_goes arrival ear Damage = stays ear.times
-item_goes arrival ear ReceiverId = stays ear.times
-item_goes arrival ear (Foreign stranger) = stays ear.times
+-- ---- several frames
 
 near_append : (xs ys : List Timed) (late latest : ℕ) → AreNear late latest xs
     → AreNear late (latest_told latest xs) ys → AreNear late latest (xs ++ ys)
@@ -125,6 +87,37 @@ goes_more xs ys late latest mid new p q = record {
   latest_is = q.latest_is ∙ ap (λ m. latest_told m ys) p.latest_is ∙ sym (latest_append xs ys latest);
 }
 
+rows_go : (told : List Timed) (d : Dates) (arrival : ℕ) (t : Timing)
+    → Goes t.late t.latest (timed_all d arrival t told) (gone_all d arrival t told)
+rows_go [] d arrival t = stays t
+rows_go (one ∷ more) d arrival t =
+    let moment = own d one.moment in
+    let next = gone_on t moment arrival in
+    goes_more (record { moment = told_as t moment; frame = one.frame } ∷ []) (timed_all d arrival next more) t.late
+    t.latest next (gone_all d arrival next more) (gone t moment arrival one.frame) (rows_go more d arrival next)
+
+-- ---- items
+
+time_goes : (time : Time) (arrival : ℕ) (ear : Hears) (frame : List ℕ)
+    → Goes ear.times.late ear.times.latest (told_at time arrival ear frame) (ear_at time arrival ear frame).times
+time_goes Unknown arrival ear frame = gone ear.times (due ear.times arrival) arrival frame
+time_goes (Ticks ticks) arrival ear frame = ticks_goes ticks ear.times arrival frame
+time_goes (Millis moment) arrival ear frame =
+    let row = row_judged ear moment frame in rows_go row.told row.after arrival ear.times
+
+fate_goes : (fate : Option Fate) (arrival : ℕ) (ear : Hears) (message : Message)
+    → Goes ear.times.late ear.times.latest (told_by fate arrival ear message) (ear_by fate arrival ear message).times
+fate_goes (Some fate) arrival ear message = stays ear.times
+fate_goes None arrival ear message = time_goes message.time arrival ear (whole_of message.frame)
+
+item_goes : (arrival : ℕ) (ear : Hears) (item : Found)
+    → Goes ear.times.late ear.times.latest (told_of arrival ear item) (ear_after arrival ear item).times
+item_goes arrival ear (Whole message) =
+    fate_goes (fate_of ear.all_formats message.time message.frame) arrival ear message
+item_goes arrival ear Damage = stays ear.times
+item_goes arrival ear ReceiverId = stays ear.times
+item_goes arrival ear (Foreign stranger) = stays ear.times
+
 all_go : (items : List Found) (arrival : ℕ) (ear : Hears)
     → Goes ear.times.late ear.times.latest (told_of_all arrival ear items) (ear_after_all arrival ear items).times
 all_go [] arrival ear = stays ear.times
@@ -136,3 +129,8 @@ all_go (item ∷ more) arrival ear =
 pub stays_near : StaysNear
 stays_near arrival ear items =
     let all = all_go items arrival ear in (all.near, all.late_is, all.latest_is)
+
+pub stays_near_at_end : StaysNearAtEnd
+stays_near_at_end ear =
+    let last = ended ear.times ear.dates in
+    let all = rows_go last.told last.after ear.times.arrival ear.times in (all.near, all.late_is, all.latest_is)

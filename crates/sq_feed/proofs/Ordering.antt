@@ -1,7 +1,7 @@
 -- Orders, step by step.
-use Rattle.std.proofs.Common.{◌≡◌, ◌≤◌, ◌<◌, ◌++◌, ◌+◌, ◌-◌, ◌∙◌, ℕ, Bool, true, false, List, [], ◌∷◌, ap, ap₂, append_assoc, arith, drop}
-use Rattle.std.proofs.Common.{if◌then◌else◌, length, nat_lt, nat_le, refl, subst, sym, take, get_or, max, eqb}
-use Rattle.std.proofs.Common.{add-one, append-nil, take-add, length-take, true≢false}
+use Rattle.std.proofs.Common.{◌≡◌, ◌≤◌, ◌<◌, ◌++◌, ◌+◌, ◌-◌, ◌^◌, ◌∙◌, ℕ, Bool, true, false, List, [], ◌∷◌, ap, ap₂}
+use Rattle.std.proofs.Common.{append_assoc, arith, drop, if◌then◌else◌, length, min, nat_lt, refl, subst, sym, take}
+use Rattle.std.proofs.Common.{get_or, max, eqb, add-one, append-nil, take-add, length-take}
 use Rattle.std.proofs.lemmas.List.{drop-drop, take-append-drop, take_more}
 use Rattle.std.proofs.lemmas.List.Elements.{filter-append}
 use Rattle.std.proofs.lemmas.Bool.Decides.{nat_tests}
@@ -9,14 +9,19 @@ use Rattle.std.proofs.Math.Seq.{drop-append_seam}
 use Rattle.std.specs.List.{insert}
 use Rattle.std.specs.Prelude.{⊤}
 use Rattle.sq_feed.specs.declared.message.Timed.{Timed}
-use Rattle.sq_feed.specs.Orders.{AllUntil, ComeInTime, GivesAll, GivesAtOnce, GivesInOrder, GivesTheFirst}
-use Rattle.sq_feed.specs.Orders.{HasFlushed, HasSorted, InTimeIsTimely, RiseFrom, Sorting, SortsStably}
-use Rattle.sq_feed.specs.Orders.{SortsTheWhole, came_in, count_of, due_of, given_all, given_in, given_now, is_due}
-use Rattle.sq_feed.specs.Orders.{is_recent, last_sorted, latest_of, left_of, nothing_sorted, only, place_of, put_all}
-use Rattle.sq_feed.specs.Orders.{put_in, settled, sorted_all, with_one}
+use Rattle.sq_feed.specs.Orders.{CountsTheLate, GivesAll, GivesTheFirst, HasFlushed, HasSorted, RiseFrom, Sorting}
+use Rattle.sq_feed.specs.Orders.{SortsStably, SortsTheWhole, came_in, count_of, due_of, given_all, given_in, given_now}
+use Rattle.sq_feed.specs.Orders.{holding_one, is_due, is_late, last_given, last_sorted, late_all, late_of, left_of}
+use Rattle.sq_feed.specs.Orders.{only, place_of, put_all, put_in, settled, sorted_all, with_one, without_one}
 
-abbrev pub held_as : Sorting → List Timed → Sorting
-held_as s held = record { reorder = s.reorder; latest = s.latest; held = held }
+-- timestamps that are all at or before this one
+abbrev pub AllUntil : ℕ → List Timed → Type 0
+AllUntil moment [] = ⊤
+AllUntil moment (one ∷ more) = (one.moment ≤ moment) × AllUntil moment more
+
+-- a state in which this timestamp was given last, and these squitters are held
+abbrev pub left_as : Sorting → ℕ → List Timed → Sorting
+left_as s given held = record s { given = given; held = held }
 
 -- ---- indices
 
@@ -40,13 +45,13 @@ step_over b k some =
 later_is : (a b : ℕ) → a < b → nat_lt a b ≡ true
 later_is a b less = grind (arith, nat_tests, less)
 
-not_later : (a b : ℕ) → b ≤ a → nat_lt a b ≡ false
+pub not_later : (a b : ℕ) → b ≤ a → nat_lt a b ≡ false
 not_later a b less = grind (arith, nat_tests, less)
 
 lt_le : (a b : ℕ) → nat_lt a b ≡ true → a ≤ b
 lt_le a b less = grind (arith, nat_tests, less)
 
-not_lt : (a b : ℕ) → nat_lt a b ≡ false → b ≤ a
+pub not_lt : (a b : ℕ) → nat_lt a b ≡ false → b ≤ a
 not_lt a b less = grind (arith, nat_tests, less)
 
 -- a later squitter at the end does not change the index; after one that is not later, the index is the end
@@ -114,7 +119,8 @@ insert_behind (x ∷ xs) ys k one =
     ap (λ n. insert (x ∷ (xs ++ ys)) n one) z ∙ insert_more x (xs ++ ys) (length xs + k) one
     ∙ ap (λ l. x ∷ l) (insert_behind xs ys k one)
 
-put_behind : (one : Timed) (xs ys : List Timed) → AllUntil one.moment xs → put_in one (xs ++ ys) ≡ xs ++ put_in one ys
+pub put_behind : (one : Timed) (xs ys : List Timed) → AllUntil one.moment xs
+    → put_in one (xs ++ ys) ≡ xs ++ put_in one ys
 put_behind one xs ys until =
     ap (λ k. insert (xs ++ ys) k one) (place_behind one.moment xs ys until)
     ∙ insert_behind xs ys (place_of one.moment ys) one
@@ -130,89 +136,135 @@ drop_insert first at xs one fits =
     ∙ subst (λ (n : ℕ). drop n (take first xs ++ rest) ≡ rest) long (drop-append_seam (take first xs) rest)
     ∙ ap (λ l. take at (drop first xs) ++ one ∷ l) (sym (drop-drop at first xs))
 
+pub held_so : (one : Timed) (s : Sorting) → is_late one s ≡ false → with_one one s ≡ holding_one one s
+held_so one s is = ap (λ b. if b then without_one s else holding_one one s) is
+
+pub late_so : (one : Timed) (s : Sorting) → is_late one s ≡ true → with_one one s ≡ without_one s
+late_so one s is = ap (λ b. if b then without_one s else holding_one one s) is
+
+-- an index in the list of an order, and after it the index for a squitter
 pub put_view : (one : Timed) (old : Sorting) (latest first at : ℕ) (line after : List Timed)
-    → latest ≡ max old.latest one.moment → drop first line ≡ old.held → first ≤ length line
+    → is_late one old ≡ false → latest ≡ max old.latest one.moment → drop first line ≡ old.held → first ≤ length line
     → at ≡ place_of one.moment (drop first line) → after ≡ insert line (first + at) one
-    → held_as (record { reorder = old.reorder; latest = latest; held = [] }) (drop first after) ≡ with_one one old
-put_view one old latest first at line after late held fits place is =
+    → left_as (record old { latest = latest }) old.given (drop first after) ≡ with_one one old
+put_view one old latest first at line after fine late held fits place is =
     let puts : drop first after ≡ put_in one old.held =
     ap (drop first) is ∙ drop_insert first at line one fits ∙ ap (λ n. insert (drop first line) n one) place
     ∙ ap (put_in one) held in
-    λ i. record { reorder = old.reorder; latest = late i; held = puts i }
+    ap₂ (λ (l : ℕ) (h : List Timed). left_as (record old { latest = l }) old.given h) late puts
+    ∙ sym (held_so one old fine)
 
 -- ---- steps of an order
 
 pub gives_the_first : GivesTheFirst
-gives_the_first room reorder latest [] = refl
-gives_the_first room reorder latest (x ∷ xs) =
-    by (is_due room reorder latest (x ∷ xs)) (gives_the_first room reorder latest xs)
+gives_the_first reorder latest [] = refl
+gives_the_first reorder latest (x ∷ xs) =
+    by (is_due reorder latest (x ∷ xs)) (gives_the_first reorder latest xs)
   where
-    by : (b : Bool) → due_of room reorder latest xs ++ left_of room reorder latest xs ≡ xs
-        → (if b then x ∷ due_of room reorder latest xs else [])
-        ++ (if b then left_of room reorder latest xs else x ∷ xs) ≡ x ∷ xs
+    by : (b : Bool) → due_of reorder latest xs ++ left_of reorder latest xs ≡ xs
+        → (if b then x ∷ due_of reorder latest xs else [])
+        ++ (if b then left_of reorder latest xs else x ∷ xs) ≡ x ∷ xs
     by true rest = ap (λ l. x ∷ l) rest
     by false rest = refl
 
-pub none_due : (room reorder latest : ℕ) (held : List Timed) → is_due room reorder latest held ≡ false
-    → (due_of room reorder latest held ≡ []) × (left_of room reorder latest held ≡ held)
-none_due room reorder latest [] is = (refl, refl)
-none_due room reorder latest (x ∷ xs) is = (
-  ap (λ b. if b then x ∷ due_of room reorder latest xs else []) is,
-  ap (λ b. if b then left_of room reorder latest xs else x ∷ xs) is,
+none_due : (reorder latest : ℕ) (held : List Timed) → is_due reorder latest held ≡ false
+    → (due_of reorder latest held ≡ []) × (left_of reorder latest held ≡ held)
+none_due reorder latest [] is = (refl, refl)
+none_due reorder latest (x ∷ xs) is = (
+  ap (λ b. if b then x ∷ due_of reorder latest xs else []) is,
+  ap (λ b. if b then left_of reorder latest xs else x ∷ xs) is,
 )
 
+-- no squitter is due
+pub settled_none : (s : Sorting) → is_due s.reorder s.latest s.held ≡ false
+    → (given_now s ≡ []) × (settled s ≡ s)
+settled_none s is =
+    let none = none_due s.reorder s.latest s.held is in
+    (none.0, ap₂ (λ d h. left_as s (last_given s.given d) h) none.0 none.1)
+
+-- a squitter that comes changes neither the delay nor what was given
+pub given_with : (one : Timed) (s : Sorting) → (with_one one s).given ≡ s.given
+given_with one s = by (is_late one s)
+  where
+    by : (b : Bool) → (if b then without_one s else holding_one one s).given ≡ s.given
+    by true = refl
+    by false = refl
+
+pub reorder_with : (one : Timed) (s : Sorting) → (with_one one s).reorder ≡ s.reorder
+reorder_with one s = by (is_late one s)
+  where
+    by : (b : Bool) → (if b then without_one s else holding_one one s).reorder ≡ s.reorder
+    by true = refl
+    by false = refl
+
+last-append : (before : ℕ) (xs ys : List Timed) → last_given before (xs ++ ys) ≡ last_given (last_given before xs) ys
+last-append before [] ys = refl
+last-append before (x ∷ xs) ys = last-append x.moment xs ys
+
 -- no squitter is due, and one more came
-pub sorted_put : (room : ℕ) (old mid : Sorting) (came given : List Timed) (one : Timed)
-    → HasSorted room old came given mid → is_due room mid.reorder mid.latest mid.held ≡ false
-    → HasSorted room old (came ++ one ∷ []) given (with_one one mid)
-sorted_put room old mid came given one sorts is =
-    let none = none_due room mid.reorder mid.latest mid.held is in
-    let same : with_one one (settled room mid) ≡ with_one one mid =
-    ap (λ l. with_one one (held_as mid l)) none.1 in record {
-      gives = λ more. ap (given_all room old) (append_assoc came (one ∷ []) more) ∙ sorts.gives (one ∷ more)
-          ∙ ap₂ (λ l (s : Sorting). given ++ (l ++ given_all room s more)) none.0 same;
-      leaves = λ more. ap (sorted_all room old) (append_assoc came (one ∷ []) more) ∙ sorts.leaves (one ∷ more)
-          ∙ ap (λ s. sorted_all room s more) same;
+pub sorted_put : (old mid : Sorting) (came given : List Timed) (one : Timed)
+    → HasSorted old came given mid → is_due mid.reorder mid.latest mid.held ≡ false
+    → HasSorted old (came ++ one ∷ []) given (with_one one mid)
+sorted_put old mid came given one sorts is =
+    let none = settled_none mid is in record {
+      gives = λ more. ap (given_all old) (append_assoc came (one ∷ []) more) ∙ sorts.gives (one ∷ more)
+          ∙ ap₂ (λ l (s : Sorting). given ++ (l ++ given_all (with_one one s) more)) none.0 none.1;
+      leaves = λ more. ap (sorted_all old) (append_assoc came (one ∷ []) more) ∙ sorts.leaves (one ∷ more)
+          ∙ ap (λ s. sorted_all (with_one one s) more) none.1;
+      last = given_with one mid ∙ sorts.last;
     }
 
 -- the first held squitter is due, and is given
-first_given : (room : ℕ) (new : Sorting) (one : Timed) (more : List Timed)
-    → is_due room new.reorder new.latest (one ∷ new.held) ≡ true
-    → (given_all room (held_as new (one ∷ new.held)) more ≡ one ∷ given_all room new more)
-    × (sorted_all room (held_as new (one ∷ new.held)) more ≡ sorted_all room new more)
-first_given room new one more is = by more
+first_given : (s : Sorting) (given : ℕ) (one : Timed) (held more : List Timed)
+    → is_due s.reorder s.latest (one ∷ held) ≡ true
+    → (given_all (left_as s given (one ∷ held)) more ≡ one ∷ given_all (left_as s one.moment held) more)
+    × (sorted_all (left_as s given (one ∷ held)) more ≡ sorted_all (left_as s one.moment held) more)
+first_given s given one held more is = by more
   where
-    first : due_of room new.reorder new.latest (one ∷ new.held) ≡ one ∷ due_of room new.reorder new.latest new.held
-    first = ap (λ b. if b then one ∷ due_of room new.reorder new.latest new.held else []) is
+    first : due_of s.reorder s.latest (one ∷ held) ≡ one ∷ due_of s.reorder s.latest held
+    first = ap (λ b. if b then one ∷ due_of s.reorder s.latest held else []) is
 
-    rest : left_of room new.reorder new.latest (one ∷ new.held) ≡ left_of room new.reorder new.latest new.held
-    rest = ap (λ b. if b then left_of room new.reorder new.latest new.held else one ∷ new.held) is
+    rest : left_of s.reorder s.latest (one ∷ held) ≡ left_of s.reorder s.latest held
+    rest = ap (λ b. if b then left_of s.reorder s.latest held else one ∷ held) is
+
+    same : settled (left_as s given (one ∷ held)) ≡ settled (left_as s one.moment held)
+    same = ap₂ (λ d h. left_as s (last_given given d) h) first rest
 
     by : (more : List Timed)
-        → (given_all room (held_as new (one ∷ new.held)) more ≡ one ∷ given_all room new more)
-        × (sorted_all room (held_as new (one ∷ new.held)) more ≡ sorted_all room new more)
-    by [] = (first, ap (held_as new) rest)
+        → (given_all (left_as s given (one ∷ held)) more ≡ one ∷ given_all (left_as s one.moment held) more)
+        × (sorted_all (left_as s given (one ∷ held)) more ≡ sorted_all (left_as s one.moment held) more)
+    by [] = (first, same)
     by (next ∷ others) = (
-      ap₂ (λ l h. l ++ given_all room (with_one next (held_as new h)) others) first rest,
-      ap (λ h. sorted_all room (with_one next (held_as new h)) others) rest,
+      ap₂ (λ l t. l ++ given_all (with_one next t) others) first same,
+      ap (λ t. sorted_all (with_one next t) others) same,
     )
 
-pub sorted_give : (room : ℕ) (old mid new : Sorting) (came given : List Timed) (one : Timed)
-    → HasSorted room old came given mid → is_due room mid.reorder mid.latest mid.held ≡ true
+flushed_as : (old new : Sorting) (one : Timed) → HasFlushed old (one ∷ []) new
+    → new ≡ left_as old one.moment new.held
+flushed_as old new one flushed = λ i. record {
+  reorder = flushed.same.0 i;
+  latest = flushed.same.1 i;
+  given = flushed.last i;
+  late = flushed.same.2 i;
+  held = new.held;
+}
+
+pub sorted_give : (old mid new : Sorting) (came given : List Timed) (one : Timed)
+    → HasSorted old came given mid → is_due mid.reorder mid.latest mid.held ≡ true
     → HasFlushed mid (one ∷ []) new
-    → HasSorted room old came (given ++ one ∷ []) new
-sorted_give room old mid new came given one sorts is flushed =
-    let same : mid ≡ held_as new (one ∷ new.held) = λ i. record {
-      reorder = sym flushed.same.0 i;
-      latest = sym flushed.same.1 i;
-      held = sym flushed.held i;
-    } in
-    let due = subst (λ (s : Sorting). is_due room s.reorder s.latest s.held ≡ true) same is in record {
-      gives = λ more. sorts.gives more ∙ ap (λ s. given ++ given_all room s more) same
-          ∙ ap (λ l. given ++ l) (first_given room new one more due).0
-          ∙ sym (append_assoc given (one ∷ []) (given_all room new more));
-      leaves = λ more. sorts.leaves more ∙ ap (λ s. sorted_all room s more) same
-          ∙ (first_given room new one more due).1;
+    → HasSorted old came (given ++ one ∷ []) new
+sorted_give old mid new came given one sorts is flushed =
+    let due : is_due mid.reorder mid.latest (one ∷ new.held) ≡ true =
+    subst (λ h. is_due mid.reorder mid.latest h ≡ true) (sym flushed.held) is in
+    let was : mid ≡ left_as mid mid.given (one ∷ new.held) = ap (left_as mid mid.given) (sym flushed.held) in
+    let now : left_as mid one.moment new.held ≡ new = sym (flushed_as mid new one flushed) in record {
+      gives = λ more. sorts.gives more ∙ ap (λ s. given ++ given_all s more) was
+          ∙ ap (λ l. given ++ l) (first_given mid mid.given one new.held more due).0
+          ∙ ap (λ s. given ++ one ∷ given_all s more) now
+          ∙ sym (append_assoc given (one ∷ []) (given_all new more));
+      leaves = λ more. sorts.leaves more ∙ ap (λ s. sorted_all s more) was
+          ∙ (first_given mid mid.given one new.held more due).1 ∙ ap (λ s. sorted_all s more) now;
+      last = flushed.last ∙ sym (last-append old.given given (one ∷ []));
     }
 
 -- none was given
@@ -220,6 +272,8 @@ pub flushed_none : (old new : Sorting) → HasFlushed old [] new → new ≡ old
 flushed_none old new flushed = λ i. record {
   reorder = flushed.same.0 i;
   latest = flushed.same.1 i;
+  given = flushed.last i;
+  late = flushed.same.2 i;
   held = flushed.held i;
 }
 
@@ -227,21 +281,9 @@ pub flushed_more : (old mid new : Sorting) (given : List Timed) (one : Timed) �
     → HasFlushed mid (one ∷ []) new → HasFlushed old (given ++ one ∷ []) new
 flushed_more old mid new given one x y = record {
   held = append_assoc given (one ∷ []) new.held ∙ ap (λ l. given ++ l) y.held ∙ x.held;
-  same = (y.same.0 ∙ x.same.0, y.same.1 ∙ x.same.1);
+  last = y.last ∙ sym (last-append old.given given (one ∷ []));
+  same = (y.same.0 ∙ x.same.0, y.same.1 ∙ x.same.1, y.same.2 ∙ x.same.2);
 }
-
--- no squitter is due, so there is room for one more
-pub room_left : (room reorder latest : ℕ) (held : List Timed) → 0 < room → is_due room reorder latest held ≡ false
-    → length held < room
-room_left room reorder latest [] some is = some
-room_left room reorder latest (x ∷ xs) some is =
-    by (nat_le (x.moment + reorder) latest) (nat_le room (length (x ∷ xs))) refl is
-  where
-    by : (b c : Bool) → nat_le room (length (x ∷ xs)) ≡ c → (if b then true else c) ≡ false
-        → length (x ∷ xs) < room
-    by true c e f = absurd (true≢false f)
-    by false true e f = absurd (true≢false f)
-    by false false e f = grind (arith, nat_tests, e)
 
 -- ---- counts
 
@@ -261,168 +303,154 @@ count-put test xs one =
           ∙ ap (count_of test) (take-append-drop at xs),
     )
 
-count_now : (test : Timed → Bool) (room : ℕ) (s : Sorting)
-    → count_of test (given_now room s) + count_of test (settled room s).held ≡ count_of test s.held
-count_now test room s =
-    sym (count-append test (given_now room s) (settled room s).held)
-    ∙ ap (count_of test) (gives_the_first room s.reorder s.latest s.held)
+count_now : (test : Timed → Bool) (s : Sorting)
+    → count_of test (given_now s) + count_of test (settled s).held ≡ count_of test s.held
+count_now test s =
+    sym (count-append test (given_now s) (settled s).held)
+    ∙ ap (count_of test) (gives_the_first s.reorder s.latest s.held)
+
+-- a squitter that comes is held or late
+count_one : (test : Timed → Bool) (s : Sorting) (one : Timed)
+    → count_of test (with_one one s).held + count_of test (late_of one s) ≡ count_of test (one ∷ s.held)
+count_one test s one = by (is_late one s)
+  where
+    by : (b : Bool) → count_of test (if b then without_one s else holding_one one s).held
+        + count_of test (if b then one ∷ [] else []) ≡ count_of test (one ∷ s.held)
+    by true = omega arith
+    by false = omega (arith, count-put test s.held one)
 
 pub gives_all : GivesAll
-gives_all room s [] test =
-    ap (count_of test) (gives_the_first room s.reorder s.latest s.held ∙ sym (append-nil s.held))
-gives_all room s (one ∷ more) test =
-    let given = given_now room s in
-    let next = with_one one (settled room s) in
-    let first : count_of test ((given ++ given_all room next more) ++ (sorted_all room next more).held)
-    ≡ count_of test given + count_of test (given_all room next more ++ (sorted_all room next more).held) =
-    ap (count_of test) (append_assoc given (given_all room next more) (sorted_all room next more).held)
-    ∙ count-append test given (given_all room next more ++ (sorted_all room next more).held) in
+gives_all s [] test =
+    ap (λ l. count_of test (given_now s ++ l)) (append-nil (settled s).held)
+    ∙ ap (count_of test) (gives_the_first s.reorder s.latest s.held ∙ sym (append-nil s.held))
+gives_all s (one ∷ more) test =
+    let given = given_now s in
+    let mid = settled s in
+    let next = with_one one mid in
+    let rest = given_all next more in
+    let held = (sorted_all next more).held in
+    let late = late_all next more in
     omega (
       arith,
-      first,
-      gives_all room next more test,
+      count-append test (given ++ rest) (held ++ (late_of one mid ++ late)),
+      count-append test given rest,
+      count-append test held (late_of one mid ++ late),
+      count-append test (late_of one mid) late,
+      gives_all next more test,
+      count-append test rest (held ++ late),
+      count-append test held late,
       count-append test next.held more,
       count-append test s.held (one ∷ more),
-      count-put test (settled room s).held one,
-      count_now test room s,
+      count_one test mid one,
+      count_now test s,
     )
+
+pub counts_the_late : CountsTheLate
+counts_the_late s [] few = omega (arith, few)
+counts_the_late s (one ∷ more) few =
+    by (is_late one mid) (counts_the_late (without_one mid) more) (counts_the_late (holding_one one mid) more)
+  where
+    mid : Sorting
+    mid = settled s
+
+    by : (b : Bool)
+        → ((without_one mid).late ≤ 2 ^ 64 - 1 → (sorted_all (without_one mid) more).late
+        ≡ min ((without_one mid).late + length (late_all (without_one mid) more)) (2 ^ 64 - 1))
+        → (mid.late ≤ 2 ^ 64 - 1 → (sorted_all (holding_one one mid) more).late
+        ≡ min (mid.late + length (late_all (holding_one one mid) more)) (2 ^ 64 - 1))
+        → (sorted_all (if b then without_one mid else holding_one one mid) more).late
+        ≡ min (s.late + length ((if b then one ∷ [] else [])
+        ++ late_all (if b then without_one mid else holding_one one mid) more)) (2 ^ 64 - 1)
+    by true dropped held = let up : min (s.late + 1) (2 ^ 64 - 1) ≤ 2 ^ 64 - 1 = omega arith in
+        omega (arith, few, dropped up)
+    by false dropped held = omega (arith, held few)
 
 -- after the due squitters are given, no other squitter is due
-left_settled : (room reorder latest : ℕ) (held : List Timed)
-    → (due_of room reorder latest (left_of room reorder latest held) ≡ [])
-    × (left_of room reorder latest (left_of room reorder latest held) ≡ left_of room reorder latest held)
-left_settled room reorder latest [] = (refl, refl)
-left_settled room reorder latest (x ∷ xs) =
-    by (is_due room reorder latest (x ∷ xs)) refl (left_settled room reorder latest xs)
+left_settled : (reorder latest : ℕ) (held : List Timed)
+    → (due_of reorder latest (left_of reorder latest held) ≡ [])
+    × (left_of reorder latest (left_of reorder latest held) ≡ left_of reorder latest held)
+left_settled reorder latest [] = (refl, refl)
+left_settled reorder latest (x ∷ xs) =
+    by (is_due reorder latest (x ∷ xs)) refl (left_settled reorder latest xs)
   where
-    by : (b : Bool) → is_due room reorder latest (x ∷ xs) ≡ b
-        → (due_of room reorder latest (left_of room reorder latest xs) ≡ [])
-        × (left_of room reorder latest (left_of room reorder latest xs) ≡ left_of room reorder latest xs)
-        → (due_of room reorder latest (if b then left_of room reorder latest xs else x ∷ xs) ≡ [])
-        × (left_of room reorder latest (if b then left_of room reorder latest xs else x ∷ xs)
-        ≡ (if b then left_of room reorder latest xs else x ∷ xs))
+    by : (b : Bool) → is_due reorder latest (x ∷ xs) ≡ b
+        → (due_of reorder latest (left_of reorder latest xs) ≡ [])
+        × (left_of reorder latest (left_of reorder latest xs) ≡ left_of reorder latest xs)
+        → (due_of reorder latest (if b then left_of reorder latest xs else x ∷ xs) ≡ [])
+        × (left_of reorder latest (if b then left_of reorder latest xs else x ∷ xs)
+        ≡ (if b then left_of reorder latest xs else x ∷ xs))
     by true is rest = rest
-    by false is rest = none_due room reorder latest (x ∷ xs) is
+    by false is rest = none_due reorder latest (x ∷ xs) is
 
-settled_given : (room : ℕ) (s : Sorting) (more : List Timed)
-    → (given_all room s more ≡ given_now room s ++ given_all room (settled room s) more)
-    × (sorted_all room s more ≡ sorted_all room (settled room s) more)
-settled_given room s [] =
-    let left = left_settled room s.reorder s.latest s.held in (
-      sym (append-nil (given_now room s)) ∙ ap (λ l. given_now room s ++ l) (sym left.0),
-      ap (held_as s) (sym left.1),
+settled_twice : (s : Sorting) → (given_now (settled s) ≡ []) × (settled (settled s) ≡ settled s)
+settled_twice s =
+    let left = left_settled s.reorder s.latest s.held in (
+      left.0,
+      ap₂ (λ d h. left_as s (last_given (last_given s.given (given_now s)) d) h) left.0 left.1,
     )
-settled_given room s (one ∷ more) =
-    let left = left_settled room s.reorder s.latest s.held in (
-      ap₂ (λ l h. given_now room s ++ (l ++ given_all room (with_one one (held_as s h)) more)) (sym left.0)
-          (sym left.1),
-      ap (λ h. sorted_all room (with_one one (held_as s h)) more) (sym left.1),
+
+settled_given : (s : Sorting) (more : List Timed)
+    → (given_all s more ≡ given_now s ++ given_all (settled s) more)
+    × (sorted_all s more ≡ sorted_all (settled s) more)
+settled_given s [] =
+    let left = settled_twice s in
+    (sym (append-nil (given_now s)) ∙ ap (λ l. given_now s ++ l) (sym left.0), sym left.1)
+settled_given s (one ∷ more) =
+    let left = settled_twice s in (
+      ap₂ (λ l t. given_now s ++ (l ++ given_all (with_one one t) more)) (sym left.0) (sym left.1),
+      ap (λ t. sorted_all (with_one one t) more) (sym left.1),
     )
+
+-- the last timestamp that was given
+pub last_of_all : (s : Sorting) (came : List Timed)
+    → (sorted_all s came).given ≡ last_given s.given (given_all s came)
+last_of_all s [] = refl
+last_of_all s (one ∷ more) =
+    let next = with_one one (settled s) in
+    last_of_all next more ∙ ap (λ g. last_given g (given_all next more)) (given_with one (settled s))
+    ∙ sym (last-append s.given (given_now s) (given_all next more))
 
 -- the squitters that are given, and the state after them
-pub sorted_so : (room : ℕ) (s : Sorting) (came : List Timed)
-    → HasSorted room s came (given_all room s came) (sorted_all room s came)
-sorted_so room s [] =
-    record { gives = λ more. (settled_given room s more).0; leaves = λ more. (settled_given room s more).1 }
-sorted_so room s (one ∷ came) =
-    let next = with_one one (settled room s) in
-    let rest = sorted_so room next came in record {
-      gives = λ more. ap (λ l. given_now room s ++ l) (rest.gives more)
-          ∙ sym (append_assoc (given_now room s) (given_all room next came)
-          (given_all room (sorted_all room next came) more));
+pub sorted_so : (s : Sorting) (came : List Timed) → HasSorted s came (given_all s came) (sorted_all s came)
+sorted_so s [] = record {
+  gives = λ more. (settled_given s more).0;
+  leaves = λ more. (settled_given s more).1;
+  last = refl;
+}
+sorted_so s (one ∷ came) =
+    let next = with_one one (settled s) in
+    let rest = sorted_so next came in record {
+      gives = λ more. ap (λ l. given_now s ++ l) (rest.gives more)
+          ∙ sym (append_assoc (given_now s) (given_all next came)
+          (given_all (sorted_all next came) more));
       leaves = rest.leaves;
+      last = last_of_all s (one ∷ came);
     }
 
 -- squitters came, and no squitter is due any more
-pub sorted_end : (room : ℕ) (old new : Sorting) (came given : List Timed) → HasSorted room old came given new
-    → is_due room new.reorder new.latest new.held ≡ false
-    → (given ≡ given_all room old came) × (new ≡ sorted_all room old came)
-sorted_end room old new came given sorts is =
-    let none = none_due room new.reorder new.latest new.held is in (
+pub sorted_end : (old new : Sorting) (came given : List Timed) → HasSorted old came given new
+    → is_due new.reorder new.latest new.held ≡ false
+    → (given ≡ given_all old came) × (new ≡ sorted_all old came)
+sorted_end old new came given sorts is =
+    let none = settled_none new is in (
       sym (append-nil given) ∙ ap (λ l. given ++ l) (sym none.0) ∙ sym (sorts.gives [])
-          ∙ ap (given_all room old) (append-nil came),
-      ap (held_as new) (sym none.1) ∙ sym (sorts.leaves []) ∙ ap (sorted_all room old) (append-nil came),
+          ∙ ap (given_all old) (append-nil came),
+      sym none.1 ∙ sym (sorts.leaves []) ∙ ap (sorted_all old) (append-nil came),
     )
-
--- with a `reorder` of 0, squitters are given as they come, and none is held
-pub gives_at_once : GivesAtOnce
-gives_at_once room latest [] = (refl, refl)
-gives_at_once room latest (one ∷ more) =
-    let now = max latest one.moment in
-    let new : Sorting = record { reorder = 0; latest = now; held = [] } in
-    let due : is_due room 0 now (one ∷ []) ≡ true = ap (λ b. if b then true else nat_le room 1) (at_latest latest) in
-    let first = first_given room new one more due in
-    let rest = gives_at_once room now more in
-    (first.0 ∙ ap (λ l. one ∷ l) rest.0, ap (λ (s : Sorting). s.held) first.1 ∙ rest.1)
-  where
-    at_latest : (latest : ℕ) → nat_le (one.moment + 0) (max latest one.moment) ≡ true
-    at_latest latest = grind (arith, nat_tests)
 
 -- ---- cuts
 
 pub sorts_the_whole : SortsTheWhole
-sorts_the_whole room before [] sorts = sym (gives_the_first room before.reorder before.latest before.held)
-sorts_the_whole room before (one ∷ more) (sorts, others) =
+sorts_the_whole before [] sorts = (sym (gives_the_first before.reorder before.latest before.held), refl)
+sorts_the_whole before (one ∷ more) (sorts, others) =
     let came = came_in more in
-    append_assoc one.given (given_in more) (last_sorted one.after more).held
-    ∙ ap (λ l. one.given ++ l) (sorts_the_whole room one.after more others)
-    ∙ sym (append_assoc one.given (given_all room one.after came) (sorted_all room one.after came).held)
-    ∙ ap₂ (λ l (s : Sorting). l ++ s.held) (sym (sorts.gives came)) (sym (sorts.leaves came))
-
--- ---- order
-
-until_front : (moment : ℕ) (xs ys : List Timed) → AllUntil moment (xs ++ ys) → AllUntil moment xs
-until_front moment [] ys until = tt
-until_front moment (x ∷ xs) ys until = (until.0, until_front moment xs ys until.1)
-
-until_back : (moment : ℕ) (xs ys : List Timed) → AllUntil moment (xs ++ ys) → AllUntil moment ys
-until_back moment [] ys until = until
-until_back moment (x ∷ xs) ys until = until_back moment xs ys until.1
-
-until_both : (moment : ℕ) (xs ys : List Timed) → AllUntil moment xs → AllUntil moment ys → AllUntil moment (xs ++ ys)
-until_both moment [] ys first second = second
-until_both moment (x ∷ xs) ys first second = (first.0, until_both moment xs ys first.1 second)
-
--- Each of these is at or after all of the given ones.
-abbrev EachAfter : List Timed → List Timed → Type 0
-EachAfter given [] = ⊤
-EachAfter given (one ∷ more) = AllUntil one.moment given × EachAfter given more
-
-each_after : (given came : List Timed)
-    → ((before : List Timed) (one : Timed) (after : List Timed) → came ≡ before ++ one ∷ after
-    → AllUntil one.moment given) → EachAfter given came
-each_after given [] until = tt
-each_after given (x ∷ xs) until = (
-  until [] x xs refl,
-  each_after given xs (λ before one after is. until (x ∷ before) one after (ap (λ l. x ∷ l) is)),
-)
-
-first_until : (room : ℕ) (s : Sorting) (moment : ℕ) (came : List Timed) → AllUntil moment (given_all room s came)
-    → AllUntil moment (given_now room s)
-first_until room s moment [] until = until
-first_until room s moment (x ∷ xs) until =
-    until_front moment (given_now room s) (given_all room (with_one x (settled room s)) xs) until
-
-put_all_behind : (given held came : List Timed) → EachAfter given came
-    → put_all (given ++ held) came ≡ given ++ put_all held came
-put_all_behind given held [] each = refl
-put_all_behind given held (x ∷ xs) (until, each) =
-    ap (λ l. put_all l xs) (put_behind x given held until) ∙ put_all_behind given (put_in x held) xs each
-
-pub gives_in_order : GivesInOrder
-gives_in_order room s [] timely = gives_the_first room s.reorder s.latest s.held
-gives_in_order room s (x ∷ xs) timely =
-    let given = given_now room s in
-    let left = (settled room s).held in
-    let next = with_one x (settled room s) in
-    let each = each_after given (x ∷ xs) (λ before one after is. first_until room s one.moment before
-    (timely before one after is)) in
-    append_assoc given (given_all room next xs) (sorted_all room next xs).held
-    ∙ ap (λ l. given ++ l) (gives_in_order room next xs (λ before one after is. until_back one.moment given
-    (given_all room next before) (timely (x ∷ before) one after (ap (λ l. x ∷ l) is))))
-    ∙ sym (put_all_behind given (put_in x left) xs each.1)
-    ∙ ap (λ l. put_all l xs) (sym (put_behind x given left each.0)
-    ∙ ap (put_in x) (gives_the_first room s.reorder s.latest s.held))
+    let rest = sorts_the_whole one.after more others in (
+      append_assoc one.given (given_in more) (last_sorted one.after more).held
+          ∙ ap (λ l. one.given ++ l) rest.0
+          ∙ sym (append_assoc one.given (given_all one.after came) (sorted_all one.after came).held)
+          ∙ ap₂ (λ l (s : Sorting). l ++ s.held) (sym (sorts.gives came)) (sym (sorts.leaves came)),
+      rest.1 ∙ ap (λ (s : Sorting). s.late) (sym (sorts.leaves came)),
+    )
 
 -- ---- sorted squitters
 
@@ -444,7 +472,7 @@ place_after low moment (x ∷ xs) rise some =
     by b false e f some rest =
         let more : 0 < place_of moment xs = grind (arith, nat_tests, f) in omega (arith, rise.0, rest more)
 
-rise_in : (low : ℕ) (held : List Timed) (one : Timed) → RiseFrom low held → low ≤ one.moment
+pub rise_in : (low : ℕ) (held : List Timed) (one : Timed) → RiseFrom low held → low ≤ one.moment
     → RiseFrom low (put_in one held)
 rise_in low [] one rise later = (later, tt)
 rise_in low (x ∷ xs) one rise later =
@@ -546,118 +574,3 @@ only_all moment held (x ∷ xs) =
 
 pub sorts_stably : SortsStably
 sorts_stably came = (rise_all [] came tt, λ moment. only_all moment [] came)
-
--- ---- squitters that come in time
-
-latest-append : (latest : ℕ) (xs ys : List Timed) → latest_of latest (xs ++ ys) ≡ latest_of (latest_of latest xs) ys
-latest-append latest [] ys = refl
-latest-append latest (x ∷ xs) ys = latest-append (max latest x.moment) xs ys
-
-latest_up : (latest : ℕ) (xs : List Timed) → latest ≤ latest_of latest xs
-latest_up latest [] = omega arith
-latest_up latest (x ∷ xs) =
-    let up : latest ≤ max latest x.moment = omega arith in omega (arith, up, latest_up (max latest x.moment) xs)
-
--- all squitters after a recent one are recent
-all_recent : (reorder latest low : ℕ) (xs : List Timed) → RiseFrom low xs → latest < low + reorder
-    → count_of (is_recent reorder latest) xs ≡ length xs
-all_recent reorder latest low [] rise recent = refl
-all_recent reorder latest low (x ∷ xs) rise recent =
-    let one : nat_lt latest (x.moment + reorder) ≡ true =
-    later_is latest (x.moment + reorder) (omega (arith, recent, rise.0)) in
-    ap (λ b. (if b then 1 else 0) + count_of (is_recent reorder latest) xs) one
-    ∙ omega (arith, all_recent reorder latest x.moment xs rise.1 (omega (arith, recent, rise.0)))
-
--- If few squitters are recent, those that are due are due by their timestamps.
-due_in_time : (room reorder latest low moment : ℕ) (held : List Timed) → RiseFrom low held
-    → count_of (is_recent reorder latest) held < room → latest ≤ moment + reorder
-    → AllUntil moment (due_of room reorder latest held)
-due_in_time room reorder latest low moment [] rise few late = tt
-due_in_time room reorder latest low moment (x ∷ xs) rise few late =
-    by (nat_le (x.moment + reorder) latest) (nat_le room (length (x ∷ xs))) refl refl
-    (due_in_time room reorder latest x.moment moment xs rise.1 (omega (arith, few)) late)
-  where
-    by : (b c : Bool) → nat_le (x.moment + reorder) latest ≡ b → nat_le room (length (x ∷ xs)) ≡ c
-        → AllUntil moment (due_of room reorder latest xs)
-        → AllUntil moment (if (if b then true else c) then x ∷ due_of room reorder latest xs else [])
-    by true c e f rest =
-        let old : x.moment + reorder ≤ latest = grind (arith, nat_tests, e) in (omega (arith, old, late), rest)
-    by false true e f rest =
-        let recent : latest < x.moment + reorder = grind (arith, nat_tests, e) in
-        let full : room ≤ length (x ∷ xs) = grind (arith, nat_tests, f) in
-        absurd (omega (arith, few, full, all_recent reorder latest x.moment (x ∷ xs) (omega arith, rise.1) recent))
-    by false false e f rest = tt
-
--- the state after squitters that came in time
-record IsAfter (room reorder : ℕ) (past : List Timed) (s : Sorting) : Type 0 where
-  late : s.reorder ≡ reorder
-  latest : s.latest ≡ latest_of 0 past
-  rise : RiseFrom 0 s.held
-  within : (test : Timed → Bool) → count_of test s.held ≤ count_of test past
-  few : count_of (is_recent reorder (latest_of 0 past)) s.held < room
-
-rise_left : (room reorder latest : ℕ) (held : List Timed) → RiseFrom 0 held
-    → RiseFrom 0 (left_of room reorder latest held)
-rise_left room reorder latest [] rise = tt
-rise_left room reorder latest (x ∷ xs) rise =
-    by (is_due room reorder latest (x ∷ xs))
-    (rise_left room reorder latest xs (rise_lower 0 x.moment xs (omega arith) rise.1))
-  where
-    by : (b : Bool) → RiseFrom 0 (left_of room reorder latest xs)
-        → RiseFrom 0 (if b then left_of room reorder latest xs else x ∷ xs)
-    by true rest = rest
-    by false rest = rise
-
-one_more : (room reorder : ℕ) (past : List Timed) (s : Sorting) (x : Timed) → IsAfter room reorder past s
-    → count_of (is_recent reorder (latest_of 0 (past ++ x ∷ []))) (past ++ x ∷ []) < room
-    → IsAfter room reorder (past ++ x ∷ []) (with_one x (settled room s))
-one_more room reorder past s x is few =
-    let left = (settled room s).held in
-    let within : (test : Timed → Bool) → count_of test (put_in x left) ≤ count_of test (past ++ x ∷ []) =
-    λ test. omega (
-      arith,
-      count-put test left x,
-      count_now test room s,
-      is.within test,
-      count-append test past (x ∷ []),
-    ) in record {
-      late = is.late;
-      latest = ap (λ n. max n x.moment) is.latest ∙ sym (latest-append 0 past (x ∷ []));
-      rise = rise_in 0 left x (rise_left room s.reorder s.latest s.held is.rise) (omega arith);
-      within = within;
-      few = omega (arith, few, within (is_recent reorder (latest_of 0 (past ++ x ∷ []))));
-    }
-
-given_in_time : (room reorder : ℕ) (past : List Timed) (s : Sorting) (moment : ℕ) → IsAfter room reorder past s
-    → latest_of 0 past ≤ moment + reorder → AllUntil moment (given_now room s)
-given_in_time room reorder past s moment is late =
-    subst (λ (r : ℕ). AllUntil moment (due_of room r s.latest s.held)) (sym is.late)
-    (subst (λ (l : ℕ). AllUntil moment (due_of room reorder l s.held)) (sym is.latest)
-    (due_in_time room reorder (latest_of 0 past) 0 moment s.held is.rise is.few late))
-
-timely_from : (room reorder : ℕ) (all past : List Timed) (s : Sorting) (before : List Timed) (one : Timed)
-    (after : List Timed) → ComeInTime room reorder all → IsAfter room reorder past s
-    → all ≡ past ++ (before ++ one ∷ after) → AllUntil one.moment (given_all room s before)
-timely_from room reorder all past s [] one after come is split =
-    given_in_time room reorder past s one.moment is (come past one after split).0
-timely_from room reorder all past s (x ∷ before) one after come is split =
-    let rest = before ++ one ∷ after in
-    let late = (come (past ++ x ∷ before) one after (split ∙ sym (append_assoc past (x ∷ before) (one ∷ after)))).0 in
-    let up : latest_of 0 past ≤ latest_of 0 (past ++ x ∷ before) =
-    subst (λ (n : ℕ). latest_of 0 past ≤ n) (sym (latest-append 0 past (x ∷ before)))
-    (latest_up (latest_of 0 past) (x ∷ before)) in
-    until_both one.moment (given_now room s) (given_all room (with_one x (settled room s)) before)
-    (given_in_time room reorder past s one.moment is (omega (arith, late, up)))
-    (timely_from room reorder all (past ++ x ∷ []) (with_one x (settled room s)) before one after come
-    (one_more room reorder past s x is (come past x rest split).1)
-    (split ∙ sym (append_assoc past (x ∷ []) rest)))
-
-pub in_time_is_timely : InTimeIsTimely
-in_time_is_timely room reorder came some come before one after split =
-    timely_from room reorder came [] (nothing_sorted reorder) before one after come (record {
-      late = refl;
-      latest = refl;
-      rise = tt;
-      within = λ test. omega arith;
-      few = some;
-    }) split

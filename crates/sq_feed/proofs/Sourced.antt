@@ -13,6 +13,7 @@ use Rattle.sq_feed.specs.declared.reader.Stage.{Stage}
 use Rattle.sq_feed.specs.declared.reader.Stage.TheVariants.{Finding, Reading, Replaying, Ending, Naming, Over}
 use Rattle.sq_feed.specs.declared.signs.Sign.{Sign}
 use Rattle.sq_feed.specs.declared.signs.Sign.TheVariants.{Unclear, Shows, Other}
+use Rattle.sq_feed.specs.Feeds.{Feeding, steps_left}
 use Rattle.sq_feed.specs.Finding.{Finds, HasShown, finds_to_come, items_from, items_shown, line_sign}
 use Rattle.sq_feed.specs.Follows.{Follows}
 use Rattle.sq_feed.specs.Machines.{Begins, new_machine, to_come}
@@ -176,6 +177,14 @@ over_on reads bytes is more =
 pub still_ending : (reads : Reads) → HasEnded reads → 0 < calls_left reads → IsEnding reads.stage
 still_ending reads (inl ending) some = ending
 still_ending reads (inr (anew, none)) some = absurd (omega (arith, none, some))
+
+-- A step without a byte leaves an ended source at its end: its reader goes on, or a squitter is ready.
+pub ended_step : (old new : Feeding) → HasEnded old.reader → 0 < steps_left old
+    → (IsEnding old.reader.stage → HasEnded new.reader) → (0 < length old.ready → new.reader ≡ old.reader)
+    → HasEnded new.reader
+ended_step old new (inl ending) some ends ready = ends ending
+ended_step old new (inr (anew, none)) some ends ready =
+    subst HasEnded (sym (ready (omega (arith, none, some)))) (inr (anew, none))
 
 -- without a byte, there is work left
 pub work_left : (bytes work : ℕ) → (0 < bytes) ⊎ (0 < work) → bytes ≡ 0 → 0 < work

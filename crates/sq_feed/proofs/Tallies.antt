@@ -1,20 +1,103 @@
 -- Counts of items, in order.
-use Rattle.std.proofs.Common.{◌≡◌, ◌+◌, ◌-◌, ◌^◌, ◌<◌, ℕ, Bool, true, false, not, List, [], ◌∷◌, length, ap, sym, refl, subst, arith}
+use Rattle.std.proofs.Common.{◌≡◌, ◌+◌, ◌-◌, ◌^◌, ◌<◌, ◌≤◌, ◌++◌, ℕ, Bool, true, false, not, List, [], ◌∷◌, length, ap, sym, refl, subst, arith}
 use Rattle.std.proofs.Common.{length-append}
 use Rattle.std.specs.Prelude.{◌==◌, ◌&&◌, nat_lt, Option, Some, None, if◌then◌else◌}
 use Rattle.std.proofs.lemmas.Bool.{ne_eqb}
+use Rattle.std.proofs.lemmas.Bool.Decides.{nat_tests}
 use Rattle.sq_feed.specs.declared.counts.Fate.{Fate}
 use Rattle.sq_feed.specs.declared.counts.Fate.TheVariants.{Written, OtherFormat, ModeAc, Multilaterated, Damaged, Aside, ReceiverId as IdFate}
+use Rattle.sq_feed.specs.declared.dates.Dates.{Dates}
+use Rattle.sq_feed.specs.declared.dates.First.{First}
+use Rattle.sq_feed.specs.declared.dates.First.TheVariants.{NoRow, Waits, Believed}
+use Rattle.sq_feed.specs.declared.dates.Run.{Run}
+use Rattle.sq_feed.specs.declared.dates.Run.TheVariants.{Empty, One, Two}
 use Rattle.sq_feed.specs.declared.message.Found.{Found}
 use Rattle.sq_feed.specs.declared.message.Found.TheVariants.{Whole, Damage, Foreign, ReceiverId}
+use Rattle.sq_feed.specs.declared.message.Message.{Message}
 use Rattle.sq_feed.specs.declared.message.RawFrame.{RawFrame}
 use Rattle.sq_feed.specs.declared.message.RawFrame.TheVariants.{ModeAc as ModeAcFrame, Short, Long}
 use Rattle.sq_feed.specs.declared.message.Time.{Time}
-use Rattle.sq_feed.specs.Counts.{Tally, counted, counted_as}
+use Rattle.sq_feed.specs.declared.message.Time.TheVariants.{Unknown, Ticks, Millis}
 use Rattle.sq_feed.specs.declared.message.Timed.{Timed}
-use Rattle.sq_feed.specs.Ears.{CountsEach, Hears, ear_after, ear_by, fate_of, format_of, is_multilaterated}
-use Rattle.sq_feed.specs.Ears.{told_by, told_of, told_of_all}
-use Rattle.sq_feed.specs.Times.{is_told_at}
+use Rattle.sq_feed.specs.Counts.{Tally, counted, counted_as, counted_rows}
+use Rattle.sq_feed.specs.Dates.{Judged, believes, confirmed, ended, ended_at, ended_run, first_waiting, follows}
+use Rattle.sq_feed.specs.Dates.{is_ahead, is_fit, judged, judged_at, judged_later, longer_run, own, run_waiting, shifted}
+use Rattle.sq_feed.specs.Dates.{timed_all, waiting}
+use Rattle.sq_feed.specs.Ears.{CountsAtEnd, CountsEach, Hears, ear_after, ear_at, ear_by, fate_of, format_of}
+use Rattle.sq_feed.specs.Ears.{is_multilaterated, row_judged, told_at, told_by, told_of}
+use Rattle.sq_feed.specs.Ears.{told_of_all, whole_of}
+use Rattle.sq_feed.specs.Times.{Timing, gone_on, is_ticks_told, ticks_moment, told_as}
+
+-- ---- rows
+
+-- each of this many frames is told, left out, or waits
+abbrev pub Balances : Judged → ℕ → Type 0
+Balances judged count = length judged.told + judged.aside + length (waiting judged.after) ≡ count
+
+if_balances : (b : Bool) (x y : Judged) (count : ℕ) → Balances x count → Balances y count
+    → Balances (if b then x else y) count
+if_balances true x y count p q = p
+if_balances false x y count p q = q
+
+confirmed_balances : (t : Timing) (d : Dates) (one : Timed) (run : List Timed)
+    → Balances (confirmed t d one run) (length (first_waiting d.first) + length run)
+confirmed_balances t d one run =
+    if_balances (is_ahead t d one) (believes d (first_waiting d.first ++ run) [])
+    (believes (shifted t d one) run (first_waiting d.first)) (length (first_waiting d.first) + length run)
+    (omega (arith, length-append (first_waiting d.first) run)) (omega arith)
+
+run_balances : (run : Run) (t : Timing) (d : Dates) (one : Timed)
+    → Balances (longer_run run t d one) (length (first_waiting d.first) + length (run_waiting run) + 1)
+run_balances Empty t d one = omega (arith, length-append (first_waiting d.first) (one ∷ []))
+run_balances (One a) t d one = omega (arith, length-append (first_waiting d.first) (a ∷ one ∷ []))
+run_balances (Two a b) t d one =
+    let is = confirmed_balances t d a (a ∷ b ∷ one ∷ []) in omega (arith, is)
+
+later_balances : (t : Timing) (d : Dates) (one : Timed)
+    → Balances (judged_later t d one) (length (first_waiting d.first) + length (run_waiting d.run) + 1)
+later_balances t d one =
+    let count = length (first_waiting d.first) + length (run_waiting d.run) + 1 in
+    let jump : Judged = record { after = record d { run = One one }; told = []; aside = length (run_waiting d.run) } in
+    let longer = longer_run d.run t d one in
+    if_balances (is_fit t d one.moment) (believes d (first_waiting d.first ++ one ∷ []) (run_waiting d.run))
+    (if follows t d one.moment then longer else jump) count
+    (omega (arith, length-append (first_waiting d.first) (one ∷ [])))
+    (if_balances (follows t d one.moment) longer jump count (run_balances d.run t d one)
+    (omega (arith, length-append (first_waiting d.first) (one ∷ []))))
+
+first_balances : (first : First) (t : Timing) (d : Dates) (one : Timed) → d.first ≡ first
+    → Balances (judged_at first t d one) (length (first_waiting d.first) + length (run_waiting d.run) + 1)
+first_balances NoRow t d one is =
+    let none : length (first_waiting d.first) ≡ 0 = ap (λ f. length (first_waiting f)) is in omega (arith, none)
+first_balances (Waits first) t d one is = later_balances t d one
+first_balances Believed t d one is = later_balances t d one
+
+pub row_balances : (t : Timing) (d : Dates) (one : Timed) → Balances (judged t d one) (length (waiting d) + 1)
+row_balances t d one =
+    let is = first_balances d.first t d one refl in
+    omega (arith, is, length-append (first_waiting d.first) (run_waiting d.run))
+
+none_waits : (b : Bool) (x y : Judged) → waiting x.after ≡ [] → waiting y.after ≡ []
+    → waiting (if b then x else y).after ≡ []
+none_waits true x y p q = p
+none_waits false x y p q = q
+
+end_balances : (run : Run) (t : Timing) (d : Dates)
+    → Balances (ended_run run t d) (length (first_waiting d.first) + length (run_waiting run))
+    × (waiting (ended_run run t d).after ≡ [])
+end_balances Empty t d = (omega arith, refl)
+end_balances (One a) t d = (
+  if_balances (is_ahead t d a) (believes d (first_waiting d.first ++ a ∷ []) [])
+      (believes d (first_waiting d.first) (a ∷ [])) (length (first_waiting d.first) + 1)
+      (omega (arith, length-append (first_waiting d.first) (a ∷ []))) (omega arith),
+  none_waits (is_ahead t d a) (believes d (first_waiting d.first ++ a ∷ []) [])
+      (believes d (first_waiting d.first) (a ∷ [])) refl refl,
+)
+end_balances (Two a b) t d = (
+  confirmed_balances t d a (a ∷ b ∷ []),
+  none_waits (is_ahead t d a) (believes d (first_waiting d.first ++ a ∷ b ∷ []) [])
+      (believes (shifted t d a) (a ∷ b ∷ []) (first_waiting d.first)) refl refl,
+)
 
 -- one item was counted, and `written` frames were written
 record Counts (before after : Tally) (written : ℕ) : Type 0 where
@@ -40,6 +123,10 @@ IsOther IdFate = Unit {0}
 IsOther Damaged = Unit {0}
 IsOther Aside = Unit {0}
 
+abbrev IsOtherFate : Option Fate → Type 0
+IsOtherFate (Some fate) = IsOther fate
+IsOtherFate None = Unit {0}
+
 other_as : (tally : Tally) (fate : Fate) → IsOther fate → Counts tally (counted_as tally fate) 0
 other_as tally Written other = absurd other
 other_as tally (OtherFormat format) other = record { found = refl; wrote = omega arith }
@@ -60,35 +147,110 @@ told_counts : (tally : Tally) (test : Bool) (told : List Timed) → length told 
 told_counts tally true told one few = subst (Counts tally (counted tally Written)) (sym one) (written_counts tally few)
 told_counts tally false told one few = other_counts tally Aside tt few
 
--- a frame, by the three tests of its fate
-tests_count : (a b c : Bool) (format arrival : ℕ) (ear : Hears) (time : Time) (frame : RawFrame)
-    → ear.counts.found < 2 ^ 64 - 1
-    → let fate : Option Fate = if a then Some Damaged
-    else (if b then Some Multilaterated else (if c then Some (OtherFormat format) else None)) in
-    Counts ear.counts (ear_by fate arrival ear time).counts (length (told_by fate arrival ear time frame))
-tests_count true b c format arrival ear time frame few = other_counts ear.counts Damaged tt few
-tests_count false true c format arrival ear time frame few = other_counts ear.counts Multilaterated tt few
-tests_count false false true format arrival ear time frame few = other_counts ear.counts (OtherFormat format) tt few
-tests_count false false false format arrival ear time frame few =
-    told_counts ear.counts (is_told_at ear.times time arrival) _ refl few
+pub timed_length : (told : List Timed) (d : Dates) (arrival : ℕ) (t : Timing)
+    → length (timed_all d arrival t told) ≡ length told
+timed_length [] d arrival t = refl
+timed_length (one ∷ more) d arrival t =
+    let more-is = timed_length more d arrival (gone_on t (own d one.moment) arrival) in omega (arith, more-is)
 
-frame_counts : (frame : RawFrame) (arrival : ℕ) (ear : Hears) (time : Time) → ear.counts.found < 2 ^ 64 - 1
-    → let fate = fate_of ear.all_formats time frame in
-    Counts ear.counts (ear_by fate arrival ear time).counts (length (told_by fate arrival ear time frame))
-frame_counts (ModeAcFrame frame) arrival ear time few = other_counts ear.counts ModeAc tt few
-frame_counts (Short frame) arrival ear time few =
-    tests_count (not (nat_lt (format_of frame) 16)) (is_multilaterated time) (not ear.all_formats) (format_of frame)
-    arrival ear time (Short frame) few
-frame_counts (Long frame) arrival ear time few =
-    tests_count (nat_lt (format_of frame) 16) (is_multilaterated time)
-    (not (format_of frame == 17) && not ear.all_formats) (format_of frame) arrival ear time (Long frame) few
+rows_by : (b : Bool) (tally : Tally) (written aside : ℕ)
+    → nat_lt (2 ^ 64 - 1) (tally.found + written + aside) ≡ b → tally.found + written + aside ≤ 2 ^ 64 - 1
+    → ((counted_rows tally written aside).found ≡ tally.found + written + aside)
+    × ((counted_rows tally written aside).written ≡ tally.written + written)
+rows_by true tally written aside is few =
+    let much : 2 ^ 64 - 1 < tally.found + written + aside = grind (arith, nat_tests, is) in
+    absurd (omega (arith, much, few))
+rows_by false tally written aside is few =
+    let counts : counted_rows tally written aside ≡ record tally {
+      found = tally.found + written + aside;
+      written = tally.written + written;
+      aside = tally.aside + aside;
+    } = ap (λ (b : Bool). if b then tally else record tally {
+      found = tally.found + written + aside;
+      written = tally.written + written;
+      aside = tally.aside + aside;
+    }) is in (ap (λ (t : Tally). t.found) counts, ap (λ (t : Tally). t.written) counts)
 
-item_counts : (arrival : ℕ) (ear : Hears) (item : Found) → ear.counts.found < 2 ^ 64 - 1
-    → Counts ear.counts (ear_after arrival ear item).counts (length (told_of arrival ear item))
-item_counts arrival ear (Whole message) few = frame_counts message.frame arrival ear message.time few
-item_counts arrival ear Damage few = other_counts ear.counts Damaged tt few
-item_counts arrival ear ReceiverId few = other_counts ear.counts IdFate tt few
-item_counts arrival ear (Foreign stranger) few = other_counts ear.counts Damaged tt few
+rows_count : (tally : Tally) (written aside : ℕ) → tally.found + written + aside ≤ 2 ^ 64 - 1
+    → ((counted_rows tally written aside).found ≡ tally.found + written + aside)
+    × ((counted_rows tally written aside).written ≡ tally.written + written)
+rows_count tally written aside few =
+    rows_by (nat_lt (2 ^ 64 - 1) (tally.found + written + aside)) tally written aside refl few
+
+-- ---- items
+
+-- one item was counted or waits, and `written` frames were written
+record Heard (before after : Hears) (written : ℕ) : Type 0 where
+  found : after.counts.found + length (waiting after.dates)
+      ≡ before.counts.found + length (waiting before.dates) + 1
+  wrote : after.counts.written ≡ before.counts.written + written
+
+-- an item that leaves rows as they are
+heard_as : (before after : Hears) (written : ℕ) → after.dates ≡ before.dates
+    → Counts before.counts after.counts written → Heard before after written
+heard_as before after written same counts = record {
+  found =
+      let few : length (waiting after.dates) ≡ length (waiting before.dates) = ap (λ d. length (waiting d)) same in
+      let found = counts.found in omega (arith, few, found);
+  wrote = counts.wrote;
+}
+
+-- a frame whose time decides
+time_counts : (time : Time) (arrival : ℕ) (ear : Hears) (frame : List ℕ)
+    → ear.counts.found + length (waiting ear.dates) < 2 ^ 64 - 1
+    → Heard ear (ear_at time arrival ear frame) (length (told_at time arrival ear frame))
+time_counts Unknown arrival ear frame few =
+    heard_as ear (ear_at Unknown arrival ear frame) 1 refl (written_counts ear.counts (omega (arith, few)))
+time_counts (Ticks ticks) arrival ear frame few =
+    heard_as ear (ear_at (Ticks ticks) arrival ear frame) (length (told_at (Ticks ticks) arrival ear frame)) refl
+    (told_counts ear.counts (is_ticks_told ear.times ticks arrival)
+    (record { moment = told_as ear.times (ticks_moment ear.times ticks arrival); frame = frame } ∷ []) refl
+    (omega (arith, few)))
+time_counts (Millis moment) arrival ear frame few =
+    let row = row_judged ear moment frame in
+    let balance = row_balances ear.times ear.dates (record { moment = moment; frame = frame }) in
+    let (found, written) = rows_count ear.counts (length row.told) row.aside (omega (arith, few, balance)) in
+    let told = timed_length row.told row.after arrival ear.times in
+    record { found = omega (arith, found, balance); wrote = omega (arith, written, told) }
+
+fate_counts : (fate : Option Fate) (arrival : ℕ) (ear : Hears) (message : Message)
+    → ear.counts.found + length (waiting ear.dates) < 2 ^ 64 - 1 → IsOtherFate fate
+    → Heard ear (ear_by fate arrival ear message) (length (told_by fate arrival ear message))
+fate_counts (Some fate) arrival ear message few other =
+    heard_as ear (ear_by (Some fate) arrival ear message) 0 refl
+    (other_counts ear.counts fate other (omega (arith, few)))
+fate_counts None arrival ear message few other = time_counts message.time arrival ear (whole_of message.frame) few
+
+-- the fate of a frame by the three tests of its format
+tests_other : (a b c : Bool) (format : ℕ)
+    → IsOtherFate (if a then Some Damaged
+    else (if b then Some Multilaterated else (if c then Some (OtherFormat format) else None)))
+tests_other true b c format = tt
+tests_other false true c format = tt
+tests_other false false true format = tt
+tests_other false false false format = tt
+
+frame_other : (all : Bool) (time : Time) (frame : RawFrame) → IsOtherFate (fate_of all time frame)
+frame_other all time (ModeAcFrame frame) = tt
+frame_other all time (Short frame) =
+    tests_other (not (nat_lt (format_of frame) 16)) (is_multilaterated time) (not all) (format_of frame)
+frame_other all time (Long frame) =
+    tests_other (nat_lt (format_of frame) 16) (is_multilaterated time) (not (format_of frame == 17) && not all)
+    (format_of frame)
+
+item_counts : (arrival : ℕ) (ear : Hears) (item : Found)
+    → ear.counts.found + length (waiting ear.dates) < 2 ^ 64 - 1
+    → Heard ear (ear_after arrival ear item) (length (told_of arrival ear item))
+item_counts arrival ear (Whole message) few =
+    fate_counts (fate_of ear.all_formats message.time message.frame) arrival ear message few
+    (frame_other ear.all_formats message.time message.frame)
+item_counts arrival ear Damage few =
+    heard_as ear (ear_after arrival ear Damage) 0 refl (other_counts ear.counts Damaged tt (omega (arith, few)))
+item_counts arrival ear ReceiverId few =
+    heard_as ear (ear_after arrival ear ReceiverId) 0 refl (other_counts ear.counts IdFate tt (omega (arith, few)))
+item_counts arrival ear (Foreign stranger) few =
+    heard_as ear (ear_after arrival ear (Foreign stranger)) 0 refl
+    (other_counts ear.counts Damaged tt (omega (arith, few)))
 
 pub counts_each : CountsEach
 counts_each arrival ear [] few = (omega arith, omega arith)
@@ -99,3 +261,25 @@ counts_each arrival ear (item ∷ items) few =
       omega (arith, found, one.found),
       omega (arith, written, one.wrote, length-append (told_of arrival ear item) (told_of_all arrival next items)),
     )
+
+pub ended_balances : (first : First) (t : Timing) (d : Dates) → d.first ≡ first
+    → Balances (ended_at first t d) (length (waiting d)) × (waiting (ended_at first t d).after ≡ [])
+ended_balances NoRow t d is =
+    let none : length (first_waiting d.first) ≡ 0 = ap (λ f. length (first_waiting f)) is in
+    let empty : waiting (record d { run = Empty }) ≡ [] = ap (λ f. first_waiting f ++ []) is in
+    (omega (arith, none, ap length empty, length-append (first_waiting d.first) (run_waiting d.run)), empty)
+ended_balances (Waits one) t d is =
+    let (balance, none) = end_balances d.run t d in
+    (omega (arith, balance, length-append (first_waiting d.first) (run_waiting d.run)), none)
+ended_balances Believed t d is =
+    let (balance, none) = end_balances d.run t d in
+    (omega (arith, balance, length-append (first_waiting d.first) (run_waiting d.run)), none)
+
+pub counts_at_end : CountsAtEnd
+counts_at_end ear few =
+    let last = ended ear.times ear.dates in
+    let (balance, none) = ended_balances ear.dates.first ear.times ear.dates refl in
+    let left : length (waiting last.after) ≡ 0 = ap length none in
+    let (found, written) = rows_count ear.counts (length last.told) last.aside (omega (arith, few, balance)) in
+    let told = timed_length last.told last.after ear.times.arrival ear.times in
+    (omega (arith, found, balance, left), omega (arith, written, told), none)

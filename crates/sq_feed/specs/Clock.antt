@@ -1,6 +1,6 @@
 -- Counting on a receiver's clock.
 use Rattle.std.specs.Prelude.{◌≡◌, ◌+◌, ◌-◌, ◌*◌, ◌/◌, ◌%◌, ◌^◌, ◌<◌, ◌≤◌, ⊤, ℕ, Bool, true, false, not, List, [], ◌∷◌, map}
-use Rattle.std.specs.Prelude.{◌==◌, ◌||◌, ◌&&◌, min, max, nat_le, Option, Some, None, if◌then◌else◌}
+use Rattle.std.specs.Prelude.{◌==◌, ◌||◌, ◌&&◌, min, max, nat_le, nat_lt, Option, Some, None, if◌then◌else◌}
 
 -- The count runs at 12 MHz. A receiver sends its low 48 bits.
 abbrev pub turn : ℕ
@@ -15,22 +15,24 @@ abbrev pub jitter : ℕ
 jitter = 1000 * rate
 
 -- The state of a clock: the latest 48-bit value; the ticks counted so far; the longest gap in ticks that is no jump;
--- by how many ticks a value may be late; whether any value was heard; the latest value that was set aside; and how
--- many in a row agree with it.
+-- the ticks that are left free where a clock starts again; by how many ticks a value may be late; whether any value was
+-- heard; the latest value that was set aside; and how many in a row agree with it.
 pub record Counted : Type 0 where
   pub last : ℕ
   pub elapsed : ℕ
   pub leap : ℕ
+  pub pause : ℕ
   pub late : ℕ
   pub is_heard : Bool
   pub aside : ℕ
   pub votes : ℕ
 
-abbrev pub unheard : ℕ → ℕ → Counted
-unheard leap late = record {
+abbrev pub unheard : (leap pause late : ℕ) → Counted
+unheard leap pause late = record {
   last = 0;
   elapsed = 0;
   leap = min leap (2 ^ 47 - 1);
+  pause = min pause (2 ^ 47 - 1);
   late = max (min late (2 ^ 47 - 1)) jitter;
   is_heard = false;
   aside = 0;
@@ -92,15 +94,21 @@ is_told before shown waited =
     not before.is_heard || goes_on before shown waited || is_late before.late before.last shown
     || agrees before shown && (before.votes == 2)
 
+-- The ticks to the first value after a jump. If it is ahead by the shortest way, the gap is as the clock shows it.
+-- Otherwise the clock has started again, and follows by `pause + 1` ticks, so that nothing is paired across the break.
+abbrev pub gap_to : Counted → ℕ → ℕ
+gap_to before shown =
+    if before.is_heard && nat_lt (ahead_of before.last shown) (2 ^ 47) then ahead_of before.last shown
+    else before.pause + 1
+
 -- The ticks at which a count starts anew: at the given timestamp, but not before the ticks counted so far. If none is
--- given, the very first value is the count. A later one follows by `leap + 1` ticks, so that nothing is paired across
--- the break.
-abbrev pub anew_at : ℕ → ℕ → ℕ → Option ℕ → ℕ
-anew_at elapsed leap shown (Some moment) = max (min (moment * rate) most) elapsed
-anew_at elapsed leap shown None = if elapsed == 0 then shown else min (elapsed + (leap + 1)) most
+-- given, the very first value is the count, and a later one follows by this gap.
+abbrev pub anew_at : (elapsed gap shown : ℕ) → Option ℕ → ℕ
+anew_at elapsed gap shown (Some moment) = max (min (moment * rate) most) elapsed
+anew_at elapsed gap shown None = if elapsed == 0 then shown else min (elapsed + gap) most
 
 abbrev pub begun_anew : Counted → ℕ → Option ℕ → ℕ
-begun_anew before shown anew = anew_at before.elapsed before.leap shown anew
+begun_anew before shown anew = anew_at before.elapsed (gap_to before shown) shown anew
 
 -- The state after a 48-bit value. If the value goes on with the count, the gap is added. A late value does not change
 -- the count. Any other value is a jump, and is set aside. The third in a row of jumps that agree starts the count

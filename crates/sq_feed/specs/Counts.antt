@@ -1,5 +1,5 @@
 -- Counts of items, by what became of each.
-use Rattle.std.specs.Prelude.{◌≡◌, ◌==◌, ◌+◌, ◌-◌, ◌^◌, ℕ, List, min, replicate, slice_index, slice_set, sum, if◌then◌else◌}
+use Rattle.std.specs.Prelude.{◌≡◌, ◌==◌, ◌+◌, ◌-◌, ◌^◌, ℕ, List, min, nat_lt, replicate, slice_index, slice_set, sum, if◌then◌else◌}
 use Rattle.sq_feed.specs.declared.counts.Fate.{Fate}
 use Rattle.sq_feed.specs.declared.counts.Fate.TheVariants.{Written, OtherFormat, ModeAc, Multilaterated, ReceiverId, Damaged, Aside}
 
@@ -50,3 +50,13 @@ counted_as tally Aside = record tally { found = tally.found + 1; aside = tally.a
 -- The counts after an item. At 2^64 - 1 items they stop.
 abbrev pub counted : Tally → Fate → Tally
 counted tally fate = if tally.found == 2 ^ 64 - 1 then tally else counted_as tally fate
+
+-- the counts after these numbers of rows were written and set aside
+abbrev pub counted_rows : Tally → (written aside : ℕ) → Tally
+counted_rows tally written aside =
+    if nat_lt (2 ^ 64 - 1) (tally.found + written + aside) then tally
+    else record tally {
+      found = tally.found + written + aside;
+      written = tally.written + written;
+      aside = tally.aside + aside;
+    }

@@ -3,6 +3,7 @@ pub mod Begun
 pub mod Cells
 pub mod Clock
 pub mod Counts
+pub mod Dates
 pub mod Ears
 pub mod Feeds
 pub mod Follows
@@ -17,3 +18,4 @@ pub mod Times
 pub mod Finding
 pub mod Orders
 pub mod Shown
+pub mod Units

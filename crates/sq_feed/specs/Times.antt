@@ -1,15 +1,12 @@
--- The timestamps of frames: by their receiver's clock, by their arrival, or their own.
-use Rattle.std.specs.Prelude.{◌==◌, ◌+◌, ◌-◌, ◌*◌, ◌%◌, ℕ, Bool, true, false, not, ◌||◌, ◌&&◌, max, min, nat_le, nat_lt}
+-- The timestamps of frames: by their receiver's clock or by their arrival.
+use Rattle.std.specs.Prelude.{◌==◌, ◌+◌, ◌-◌, ◌*◌, ◌%◌, ℕ, Bool, true, ◌||◌, ◌&&◌, max, min, nat_le}
 use Rattle.std.specs.Prelude.{Option, Some, None, if◌then◌else◌}
 use Rattle.sq_feed.specs.declared.manner.Manner.{Manner}
-use Rattle.sq_feed.specs.declared.message.Time.{Time}
-use Rattle.sq_feed.specs.declared.message.Time.TheVariants.{Unknown, Ticks, Millis}
 use Rattle.sq_feed.specs.Clock.{Counted, heard, is_told, most, own_moment, rate, restarted, turn, unheard}
 
 -- The state: the receiver's clock; whether arrivals are those of a live source; whether the clock is ignored; the
 -- longest gap (ms) that is no jump; by how much (ms) a timestamp may be before the latest one; the latest timestamp,
--- and the arrival of its frame; the arrival of the last frame with an accepted clock; whether a row had a time of its
--- own; the latest such time that was set aside, and how many in a row agree with it.
+-- and the arrival of its frame; and the arrival of the last frame with an accepted clock.
 pub record Timing : Type 0 where
   pub clock : Counted
   pub is_live : Bool
@@ -19,13 +16,18 @@ pub record Timing : Type 0 where
   pub latest : ℕ
   pub arrival : ℕ
   pub read_at : ℕ
-  pub is_dated : Bool
-  pub aside : ℕ
-  pub votes : ℕ
+
+-- a day in milliseconds
+abbrev pub day : ℕ
+day = 86400000
+
+-- the longest gap of a receiver's clock that is no jump: in a recorded source, receivers are silent for hours
+abbrev pub clock_leap : Manner → ℕ
+clock_leap manner = if manner.is_live then manner.leap else max manner.leap day
 
 abbrev pub no_times : Manner → Timing
 no_times manner = record {
-  clock = unheard (manner.leap * rate) (manner.late * rate);
+  clock = unheard (clock_leap manner * rate) (manner.leap * rate) (manner.late * rate);
   is_live = manner.is_live;
   ignores_clock = manner.ignores_clock;
   leap = manner.leap;
@@ -33,9 +35,6 @@ no_times manner = record {
   latest = 0;
   arrival = 0;
   read_at = 0;
-  is_dated = false;
-  aside = 0;
-  votes = 0;
 }
 
 -- the state after a connection was lost
@@ -87,29 +86,13 @@ by_clock t ticks arrival =
 
 -- ---- a row with a time of its own
 
--- the first such time; or one that follows the latest timestamp within a leap, or is late by at most `late` or a
--- second
-abbrev pub is_row_fit : Timing → ℕ → Bool
-is_row_fit t moment =
-    not t.is_dated || nat_le t.latest (moment + max t.late 1000) && nat_le moment (t.latest + t.leap)
+-- A time may always be late by this many milliseconds.
+abbrev pub tolerance : Timing → ℕ
+tolerance t = max t.late 1000
 
--- a time was set aside, and this time is at or after it
-abbrev pub row_agrees : Timing → ℕ → Bool
-row_agrees t moment = not (t.votes == 0) && nat_le t.aside moment
-
--- the time fits, or is the third in a row that jumps ahead
-abbrev pub is_own_told : Timing → ℕ → Bool
-is_own_told t moment = is_row_fit t moment || not (nat_lt moment t.latest) && row_agrees t moment && (t.votes == 2)
-
--- A time that goes back further is left out. A time that jumps ahead is set aside, until three in a row have come,
--- each at or after the previous one. Rows that go on jumping are accepted from then on.
-abbrev pub by_own : Timing → ℕ → ℕ → Timing
-by_own t moment arrival =
-    if is_row_fit t moment then gone_on (record t { is_dated = true; votes = 0 }) moment arrival
-    else (if nat_lt moment t.latest then t
-    else (if not (row_agrees t moment) then record t { aside = moment; votes = 1 }
-    else (if t.votes == 2 then gone_on (record t { aside = moment }) moment arrival
-    else record t { aside = moment; votes = t.votes + 1 })))
+-- the time is after this one by at most a leap, or late by no more than times may be
+abbrev pub is_near : Timing → (base moment : ℕ) → Bool
+is_near t base moment = nat_le base (moment + tolerance t) && nat_le moment (base + t.leap)
 
 -- ---- any frame
 
@@ -117,19 +100,12 @@ by_own t moment arrival =
 abbrev pub is_clockless : Timing → ℕ → Bool
 is_clockless t ticks = ticks == 0 || t.ignores_clock
 
-abbrev pub is_told_at : Timing → Time → ℕ → Bool
-is_told_at t Unknown arrival = true
-is_told_at t (Ticks ticks) arrival = if is_clockless t ticks then true else is_clock_told t ticks arrival
-is_told_at t (Millis moment) arrival = is_own_told t moment
+-- a frame with a clock has a timestamp
+abbrev pub is_ticks_told : Timing → ℕ → ℕ → Bool
+is_ticks_told t ticks arrival = if is_clockless t ticks then true else is_clock_told t ticks arrival
 
-abbrev pub times_after : Timing → Time → ℕ → Timing
-times_after t Unknown arrival = by_arrival t arrival
-times_after t (Ticks ticks) arrival = if is_clockless t ticks then by_arrival t arrival else by_clock t ticks arrival
-times_after t (Millis moment) arrival = by_own t moment arrival
+abbrev pub by_ticks : Timing → ℕ → ℕ → Timing
+by_ticks t ticks arrival = if is_clockless t ticks then by_arrival t arrival else by_clock t ticks arrival
 
--- the timestamp of a frame that has one
-abbrev pub moment_at : Timing → Time → ℕ → ℕ
-moment_at t Unknown arrival = told_as t (due t arrival)
-moment_at t (Ticks ticks) arrival =
-    told_as t (if is_clockless t ticks then due t arrival else clock_moment t ticks arrival)
-moment_at t (Millis moment) arrival = told_as t moment
+abbrev pub ticks_moment : Timing → ℕ → ℕ → ℕ
+ticks_moment t ticks arrival = if is_clockless t ticks then due t arrival else clock_moment t ticks arrival

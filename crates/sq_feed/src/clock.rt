@@ -1,6 +1,6 @@
 //! Continues the count of a receiver's clock beyond its 48 bits.
 ghost use Rattle.std.specs.Prelude.{◌≡◌, ◌<◌, ◌%◌, ◌^◌, MatchOption, false, true};
-ghost use Rattle.sq_feed.specs.Clock.{IsHeard, anew_at, heard, is_awaited, is_late, is_soon, is_told, own_moment, restarted, unheard};
+ghost use Rattle.sq_feed.specs.Clock.{IsHeard, anew_at, gap_to, heard, is_awaited, is_late, is_soon, is_told, own_moment, restarted, unheard};
 
 use std::marker::Model;
 
@@ -22,6 +22,7 @@ pub struct Clock {
     last: u64,
     elapsed: u64,
     leap: u64,
+    pause: u64,
     late: u64,
     is_heard: bool,
     aside: u64,
@@ -38,26 +39,28 @@ impl Model for Clock {
       last = s.last;
       elapsed = s.elapsed;
       leap = s.leap;
+      pause = s.pause;
       late = s.late;
       is_heard = s.is_heard;
       aside = s.aside;
       votes = s.votes;
     } };
 
-    ghost invariant = { λ s. (s.last < 2 ^ 48) × (s.leap < 2 ^ 47) × (s.late < 2 ^ 47) × (s.aside < 2 ^ 48)
-        × (s.votes < 3) };
+    ghost invariant = { λ s. (s.last < 2 ^ 48) × (s.leap < 2 ^ 47) × (s.pause < 2 ^ 47) × (s.late < 2 ^ 47)
+        × (s.aside < 2 ^ 48) × (s.votes < 3) };
 }
 
 impl Clock {
-    /// Returns a clock before its first value. A gap above `leap` ticks is a jump. A value may be late by `late`
-    /// ticks, and always by a second. Both are at most 2^47 - 1 ticks.
-    pub fn new(leap: u64, late: u64) -> Clock
-        ensures { result ≡ unheard leap late }
+    /// Returns a clock before its first value. A gap above `leap` ticks is a jump. A clock that starts again follows by
+    /// more than `pause` ticks. A value may be late by `late` ticks, and always by a second. All are at most 2^47 - 1.
+    pub fn new(leap: u64, pause: u64, late: u64) -> Clock
+        ensures { result ≡ unheard leap pause late }
     {
         Clock {
             last: 0,
             elapsed: 0,
             leap: leap.min(TURN / 2 - 1),
+            pause: pause.min(TURN / 2 - 1),
             late: late.min(TURN / 2 - 1).max(JITTER),
             is_heard: false,
             aside: 0,
@@ -67,8 +70,9 @@ impl Clock {
 
     /// Takes the low 48 bits of a count, and returns its timestamp (ms). A late value gets an earlier timestamp. Any
     /// other gap above `leap` is a jump, unless about `waited` milliseconds have passed. Returns `None` for a value
-    /// that jumps, until three in a row agree. The count then goes on from `anew` (ms), or a leap later if that is
-    /// `None`. The very first value starts the count at `anew`, or at itself.
+    /// that jumps, until three in a row agree. The count then goes on from `anew` (ms). If that is `None`, it goes on
+    /// by the gap if the value is ahead, and by more than `pause` if the clock started again. The very first value
+    /// starts the count at `anew`, or at itself.
     #[inline(always)]
     pub fn hear(&mut self, ticks: u64, waited: u64, anew: Option<u64>) -> Option<u64>
         ensures kept { self.new ≡ heard self.old (ticks % 2 ^ 48) waited anew }
@@ -100,8 +104,8 @@ impl Clock {
     {
         let shown = ticks % TURN;
         if !self.is_heard {
+            self.elapsed = anew_at(self.elapsed, self.gap_to(shown), shown, anew);
             self.is_heard = true;
-            self.elapsed = anew_at(self.elapsed, self.leap, shown, anew);
             self.last = shown;
             self.aside = 0;
             self.votes = 0;
@@ -128,7 +132,7 @@ impl Clock {
             return None;
         }
         if self.votes == AGREEING - 1 {
-            self.elapsed = anew_at(self.elapsed, self.leap, shown, anew);
+            self.elapsed = anew_at(self.elapsed, self.gap_to(shown), shown, anew);
             self.last = shown;
             self.votes = 0;
             return Some(self.elapsed / RATE);
@@ -136,6 +140,19 @@ impl Clock {
         self.aside = shown;
         self.votes += 1;
         None
+    }
+
+    // Returns the ticks to the first value after a jump.
+    fn gap_to(&self, shown: u64) -> u64
+        requires { shown < 2 ^ 48 }
+        ensures { result ≡ gap_to self.now shown }
+    {
+        let ahead = (shown + TURN - self.last) % TURN;
+        if self.is_heard && ahead < TURN / 2 {
+            ahead
+        } else {
+            self.pause + 1
+        }
     }
 
     /// Forgets the last value: the next one starts the count anew, at or after the timestamps so far.
@@ -148,14 +165,13 @@ impl Clock {
 }
 
 // Returns the ticks at which a count starts anew: at or after `elapsed`.
-fn anew_at(elapsed: u64, leap: u64, shown: u64, anew: Option<u64>) -> u64
-    requires { leap < 2 ^ 47 }
-    ensures { result ≡ anew_at elapsed leap shown anew }
+fn anew_at(elapsed: u64, gap: u64, shown: u64, anew: Option<u64>) -> u64
+    ensures { result ≡ anew_at elapsed gap shown anew }
 {
     match anew {
         Some(moment) => moment.saturating_mul(RATE).max(elapsed),
         None if elapsed == 0 => shown,
-        None => elapsed.saturating_add(leap + 1),
+        None => elapsed.saturating_add(gap),
     }
 }
 

@@ -1,6 +1,6 @@
 //! How many items were found, and what became of each.
 ghost use Rattle.std.specs.Prelude.{◌≡◌, ◌<◌, slice_index, min};
-ghost use Rattle.sq_feed.specs.Counts.{AddsUp, counted, nothing_counted};
+ghost use Rattle.sq_feed.specs.Counts.{AddsUp, counted, counted_rows, nothing_counted};
 
 use std::marker::Model;
 
@@ -118,6 +118,20 @@ impl Counts {
         }
     }
 
+    /// Counts rows that were written, and rows that were set aside. Counts none if more than 2^64 - 1 items were found.
+    #[inline(always)]
+    pub fn count_rows(&mut self, written: u8, aside: u8)
+        ensures { self.new ≡ counted_rows self.old written aside }
+    {
+        let (written, aside) = (u64::from(written), u64::from(aside));
+        let Some(found) = self.found.checked_add(written + aside) else {
+            return;
+        };
+        self.found = found;
+        self.written += written;
+        self.aside += aside;
+    }
+
     /// Returns how many items were found: the sum of all other counts.
     pub fn found(&self) -> u64
         ensures value { result ≡ self.now.found }
@@ -131,7 +145,8 @@ impl Counts {
     pub fn written(&self) -> u64
         ensures { result ≡ self.now.written }
     {
-        self.written
+        let Counts { written, .. } = self;
+        *written
     }
 
     /// Returns how many frames were of a downlink format other than 17. All formats from 24 up are counted as 24.
@@ -181,6 +196,7 @@ impl Counts {
     pub fn aside(&self) -> u64
         ensures { result ≡ self.now.aside }
     {
-        self.aside
+        let Counts { aside, .. } = self;
+        *aside
     }
 }

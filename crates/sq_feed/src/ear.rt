@@ -1,12 +1,18 @@
 //! What becomes of each item: a squitter with its timestamp, or a count.
-ghost use Rattle.std.specs.Prelude.{◌≡◌, ◌≤◌, [], ◌∷◌, Bool, MatchOption, None, false, length, true};
-ghost use Rattle.sq_feed.specs.Ears.{ear_after, fate_of, fate_of_long, fate_of_short, frame_in, is_multilaterated, lost};
-ghost use Rattle.sq_feed.specs.Ears.{padded, told_of, untouched, whole_of};
+ghost use Rattle.std.specs.Prelude.{◌≡◌, ◌≤◌, ◌+◌, ◌++◌, [], ◌∷◌, Bool, MatchOption, None, false, length, true};
+ghost use Rattle.sq_feed.specs.Counts.{counted_rows};
+ghost use Rattle.sq_feed.specs.Dates.{HasRoom, gone_all, is_dated, judged, timed_all, waiting};
+ghost use Rattle.sq_feed.specs.Ears.{ear_after, ear_at, ear_ended, ear_judged, fate_of, fate_of_long, fate_of_short};
+ghost use Rattle.sq_feed.specs.Ears.{frame_in, is_multilaterated, padded, told_at, told_ended, told_judged, told_of};
+ghost use Rattle.sq_feed.specs.Ears.{untouched, whole_of};
+ghost use Rattle.sq_feed.specs.Times.{other_times};
 
 use crate::counts::{Counts, Fate};
+use crate::dates::{Dates, Verdict};
 use crate::manner::Manner;
-use crate::message::{Found, Message, RawFrame, Stranger, Time};
+use crate::message::{Found, Message, RawFrame, Stranger, Time, Timed};
 use crate::times::Times;
+use arrayvec::ArrayVec;
 use std::marker::Model;
 
 // The clock of frames that a server computed: FF 00 and "MLAT".
@@ -18,10 +24,14 @@ const SQUITTER: u8 = 17;
 // The first downlink format of long frames.
 const FIRST_LONG: u8 = 16;
 
+/// Squitters with their timestamps that wait to be given.
+pub(crate) type Ready = ArrayVec<Timed, 4>;
+
 /// Gives each squitter its timestamp, and counts what becomes of every item.
 #[derive(Drop)]
 pub struct Ear {
     times: Times,
+    dates: Dates,
     all_formats: bool,
     counts: Counts,
     stranger: Option<Stranger>,
@@ -34,6 +44,7 @@ impl Model for Ear {
 
     ghost view = { λ s. record {
       times = s.times;
+      dates = s.dates;
       all_formats = s.all_formats;
       counts = s.counts;
       stranger = s.stranger;
@@ -47,6 +58,7 @@ impl Ear {
     {
         Ear {
             times: Times::new(manner),
+            dates: Dates::new(),
             all_formats: manner.all_formats,
             counts: Counts::new(),
             stranger: None,
@@ -67,13 +79,23 @@ impl Ear {
         self.stranger
     }
 
-    /// Hears an item that arrived at `arrival` (ms). Returns the timestamp of its frame, if it has one.
+    /// Returns whether a row had a time of its own.
+    pub fn is_dated(&self) -> bool
+        ensures { result ≡ is_dated self.now.dates }
+    {
+        self.dates.is_dated()
+    }
+
+    /// Hears an item that arrived at `arrival` (ms). Returns the timestamp of its frame, if it has one at once. Appends
+    /// the squitters of rows whose times it confirms, itself the last, to those that are ready.
     #[inline(never)]
-    pub fn hear(&mut self, found: &Found, arrival: u64) -> Option<u64>
+    pub fn hear(&mut self, found: &Found, arrival: u64, ready: &mut Ready) -> Option<u64>
+        requires { length ready.old.items + length (waiting self.old.dates) ≤ 3 }
         ensures kept { self.new ≡ ear_after arrival self.old found.now }
-        ensures told { MatchOption result (told_of arrival self.old found.now ≡ [])
-            (λ moment. told_of arrival self.old found.now
-            ≡ record { moment = moment; frame = frame_in found.now } ∷ []) }
+        ensures told { MatchOption result (ready.new.items ≡ ready.old.items ++ told_of arrival self.old found.now)
+            (λ moment. (ready.new ≡ ready.old) × (told_of arrival self.old found.now
+            ≡ record { moment = moment; frame = frame_in found.now } ∷ [])) }
+        ensures room { HasRoom ready.new.items self.new.dates }
     {
         match found {
             Found::Damage => {
@@ -89,68 +111,180 @@ impl Ear {
                 self.stranger = Some(*stranger);
                 None
             }
-            Found::Whole(message) => self.hear_message(message, arrival),
+            Found::Whole(message) => self.hear_message(message, arrival, ready),
         }
+    }
+
+    /// Decides about rows that wait, since no other row comes. Appends the squitters of those that get timestamps.
+    pub fn end_rows(&mut self, ready: &mut Ready)
+        requires { length ready.old.items + length (waiting self.old.dates) ≤ 3 }
+        ensures kept { self.new ≡ ear_ended self.old }
+        ensures told { ready.new.items ≡ ready.old.items ++ told_ended self.old }
+        ensures room { (waiting self.new.dates ≡ []) × (length ready.new.items ≤ 3) }
+    {
+        let verdict = self.dates.end(&self.times);
+        let arrival = self.times.arrival();
+        self.tell(&verdict, arrival, ready);
     }
 
     /// Starts the receiver's clock anew, after a lost connection.
     pub fn restart(&mut self)
-        ensures { self.new ≡ lost self.old }
+        ensures { self.new ≡ record self.old { times = other_times self.old.times } }
     {
         self.times.restart();
     }
 
     // Hears a message that arrived at `arrival` (ms). Most are squitters of a receiver, and take a short path.
     #[inline(always)]
-    pub(crate) fn hear_message(&mut self, message: &Message, arrival: u64) -> Option<u64>
+    pub(crate) fn hear_message(
+        &mut self,
+        message: &Message,
+        arrival: u64,
+        ready: &mut Ready,
+    ) -> Option<u64>
+        requires { length ready.old.items + length (waiting self.old.dates) ≤ 3 }
         ensures kept { self.new ≡ ear_after arrival self.old (Found.Whole message.now) }
-        ensures told { MatchOption result (told_of arrival self.old (Found.Whole message.now) ≡ [])
-            (λ moment. told_of arrival self.old (Found.Whole message.now)
-            ≡ record { moment = moment; frame = whole_of message.now.frame } ∷ []) }
+        ensures told { MatchOption result
+            (ready.new.items ≡ ready.old.items ++ told_of arrival self.old (Found.Whole message.now))
+            (λ moment. (ready.new ≡ ready.old) × (told_of arrival self.old (Found.Whole message.now)
+            ≡ record { moment = moment; frame = whole_of message.now.frame } ∷ [])) }
+        ensures room { HasRoom ready.new.items self.new.dates }
     {
         if is_squitter(&message.frame) && !is_multilaterated(message.time) {
-            self.hear_timed(message, arrival)
+            self.hear_timed(message, arrival, ready)
         } else {
-            self.hear_any(message, arrival)
+            self.hear_any(message, arrival, ready)
         }
     }
 
     // Does what `hear_message` does, whatever the message. Inlined, so that no message is stored for a call.
     #[inline(always)]
-    fn hear_any(&mut self, message: &Message, arrival: u64) -> Option<u64>
+    fn hear_any(&mut self, message: &Message, arrival: u64, ready: &mut Ready) -> Option<u64>
+        requires { length ready.old.items + length (waiting self.old.dates) ≤ 3 }
         ensures kept { self.new ≡ ear_after arrival self.old (Found.Whole message.now) }
-        ensures told { MatchOption result (told_of arrival self.old (Found.Whole message.now) ≡ [])
-            (λ moment. told_of arrival self.old (Found.Whole message.now)
-            ≡ record { moment = moment; frame = whole_of message.now.frame } ∷ []) }
+        ensures told { MatchOption result
+            (ready.new.items ≡ ready.old.items ++ told_of arrival self.old (Found.Whole message.now))
+            (λ moment. (ready.new ≡ ready.old) × (told_of arrival self.old (Found.Whole message.now)
+            ≡ record { moment = moment; frame = whole_of message.now.frame } ∷ [])) }
+        ensures room { HasRoom ready.new.items self.new.dates }
     {
         match fate_of(self.all_formats, message.time, &message.frame) {
             Some(fate) => {
                 self.counts.count(fate);
                 None
             }
-            None => self.hear_timed(message, arrival),
+            None => self.hear_timed(message, arrival, ready),
         }
     }
 
     // Hears a message whose time decides what becomes of it.
     #[inline(always)]
-    fn hear_timed(&mut self, message: &Message, arrival: u64) -> Option<u64>
-        requires { fate_of self.old.all_formats message.now.time message.now.frame ≡ None }
+    fn hear_timed(&mut self, message: &Message, arrival: u64, ready: &mut Ready) -> Option<u64>
+        requires fate { fate_of self.old.all_formats message.now.time message.now.frame ≡ None }
+        requires room { length ready.old.items + length (waiting self.old.dates) ≤ 3 }
         ensures kept { self.new ≡ ear_after arrival self.old (Found.Whole message.now) }
-        ensures told { MatchOption result (told_of arrival self.old (Found.Whole message.now) ≡ [])
-            (λ moment. told_of arrival self.old (Found.Whole message.now)
-            ≡ record { moment = moment; frame = whole_of message.now.frame } ∷ []) }
+        ensures told { MatchOption result
+            (ready.new.items ≡ ready.old.items ++ told_of arrival self.old (Found.Whole message.now))
+            (λ moment. (ready.new ≡ ready.old) × (told_of arrival self.old (Found.Whole message.now)
+            ≡ record { moment = moment; frame = whole_of message.now.frame } ∷ [])) }
+        ensures room { HasRoom ready.new.items self.new.dates }
     {
-        match self.times.hear(message.time, arrival) {
-            Some(moment) => {
+        match message.time {
+            Time::Unknown => {
                 self.counts.count(Fate::Written);
-                Some(moment)
+                Some(self.times.hear_arrival(arrival))
             }
-            None => {
-                self.counts.count(Fate::Aside);
-                None
-            }
+            Time::Ticks(ticks) => match self.times.hear_ticks(ticks, arrival) {
+                Some(moment) => {
+                    self.counts.count(Fate::Written);
+                    Some(moment)
+                }
+                None => {
+                    self.counts.count(Fate::Aside);
+                    None
+                }
+            },
+            Time::Millis(moment) => self.hear_row(moment, &message.frame, arrival, ready),
         }
+    }
+
+    // Hears a row with its own time (ms). Most fit, and no frame waits.
+    #[inline(always)]
+    fn hear_row(
+        &mut self,
+        moment: u64,
+        frame: &RawFrame,
+        arrival: u64,
+        ready: &mut Ready,
+    ) -> Option<u64>
+        requires { length ready.old.items + length (waiting self.old.dates) ≤ 3 }
+        ensures kept { self.new ≡ ear_at (Time.Millis moment) arrival self.old (whole_of frame.now) }
+        ensures told { MatchOption result
+            (ready.new.items ≡ ready.old.items ++ told_at (Time.Millis moment) arrival self.old (whole_of frame.now))
+            (λ told. (ready.new ≡ ready.old) × (told_at (Time.Millis moment) arrival self.old (whole_of frame.now)
+            ≡ record { moment = told; frame = whole_of frame.now } ∷ [])) }
+        ensures room { HasRoom ready.new.items self.new.dates }
+    {
+        if self.dates.is_calm() && self.dates.is_fit(&self.times, moment) {
+            self.counts.count_rows(1, 0);
+            return Some(self.times.go_on(self.dates.own(moment), arrival));
+        }
+        let frame = whole_of(frame);
+        self.hear_jump(Timed { moment, frame }, arrival, ready);
+        None
+    }
+
+    // Hears a row that does not fit, or comes while others wait.
+    #[cold]
+    #[inline(never)]
+    fn hear_jump(&mut self, one: Timed, arrival: u64, ready: &mut Ready)
+        requires { length ready.old.items + length (waiting self.old.dates) ≤ 3 }
+        ensures kept { self.new ≡ ear_judged arrival self.old (judged self.old.times self.old.dates one) }
+        ensures told { ready.new.items
+            ≡ ready.old.items ++ told_judged arrival self.old (judged self.old.times self.old.dates one) }
+        ensures room { HasRoom ready.new.items self.new.dates }
+    {
+        let verdict = self.dates.judge(&self.times, one);
+        self.tell(&verdict, arrival, ready);
+    }
+
+    // Gives frames their timestamps, and counts them and those that are left out.
+    fn tell(&mut self, verdict: &Verdict, arrival: u64, ready: &mut Ready)
+        requires { length ready.old.items + length verdict.now.told.items ≤ 4 }
+        ensures times { self.new.times
+            ≡ gone_all self.old.dates arrival self.old.times verdict.now.told.items }
+        ensures counts { self.new.counts
+            ≡ counted_rows self.old.counts (length verdict.now.told.items) verdict.now.aside }
+        ensures same { (self.new.dates ≡ self.old.dates) × (self.new.all_formats ≡ self.old.all_formats)
+            × (self.new.stranger ≡ self.old.stranger) }
+        ensures told { ready.new.items ≡ ready.old.items
+            ++ timed_all self.old.dates arrival self.old.times verdict.now.told.items }
+    {
+        self.counts
+            .count_rows(verdict.told.len() as u8, verdict.aside);
+        tell_from(
+            &mut self.times,
+            &self.dates,
+            verdict.told.as_slice(),
+            arrival,
+            ready,
+        );
+    }
+}
+
+// Gives frames their timestamps, in order.
+fn tell_from(times: &mut Times, dates: &Dates, told: &[Timed], arrival: u64, ready: &mut Ready)
+    requires { length ready.old.items + length told.now ≤ 4 }
+    ensures times { times.new ≡ gone_all dates.now arrival times.old told.now }
+    ensures told { ready.new.items ≡ ready.old.items ++ timed_all dates.now arrival times.old told.now }
+{
+    if let Some((one, more)) = told.split_first() {
+        let moment = times.go_on(dates.own(one.moment), arrival);
+        ready.push(Timed {
+            moment,
+            frame: one.frame,
+        });
+        tell_from(times, dates, more, arrival, ready);
     }
 }
 

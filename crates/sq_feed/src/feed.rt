@@ -1,11 +1,13 @@
 //! Squitters and their timestamps from a source's bytes, as they come.
-ghost use Rattle.std.specs.Prelude.{◌≡◌, ◌⊎◌, ◌+◌, ◌≤◌, ◌<◌, false, length, take, true};
+ghost use Rattle.std.specs.Prelude.{◌≡◌, ◌⊎◌, ◌+◌, ◌++◌, ◌≤◌, ◌<◌, [], ◌∷◌, false, length, take, true};
+ghost use Rattle.sq_feed.specs.Dates.{is_dated};
 ghost use Rattle.sq_feed.specs.Ears.{ear_after, told_of};
-ghost use Rattle.sq_feed.specs.Feeds.{HasClosedFeed, HasLost, HasTold, format_of_source, nothing_fed, stored};
-ghost use Rattle.sq_feed.specs.Readers.{HasEnded, IsEnding, calls_for, calls_left};
+ghost use Rattle.sq_feed.specs.Feeds.{HasClosedFeed, HasLost, HasSettled, HasTold, format_of_source, nothing_fed};
+ghost use Rattle.sq_feed.specs.Feeds.{steps_for, steps_left, stored};
+ghost use Rattle.sq_feed.specs.Readers.{HasEnded, IsEnding};
 
 use crate::counts::Counts;
-use crate::ear::{Ear, frame_in, whole_of};
+use crate::ear::{Ear, Ready, frame_in, whole_of};
 use crate::machine::Format;
 use crate::manner::Manner;
 use crate::message::{Found, Message, Stranger, Timed};
@@ -24,14 +26,19 @@ pub struct Step {
 pub struct Feed {
     reader: Reader,
     ear: Ear,
+    ready: Ready,
 }
 
 impl Model for Feed {
+    ghost use Rattle.std.specs.Prelude.{◌+◌, ◌≤◌, length};
+    ghost use Rattle.sq_feed.specs.Dates.{waiting};
     ghost use Rattle.sq_feed.specs.Feeds.{Feeding};
 
     ghost Value = { Feeding };
 
-    ghost view = { λ s. record { reader = s.reader; ear = s.ear } };
+    ghost view = { λ s. record { reader = s.reader; ear = s.ear; ready = s.ready.items } };
+
+    ghost invariant = { λ s. length s.ready.items + length (waiting s.ear.dates) ≤ 3 };
 }
 
 impl Feed {
@@ -42,12 +49,14 @@ impl Feed {
         Feed {
             reader: Reader::new(format),
             ear: Ear::new(manner),
+            ready: Ready::new(),
         }
     }
 
     /// Takes bytes of a piece that arrived at `arrival` (ms), up to the end of the first item, or all of them. Stores
     /// the item's squitter in the slot, if it has one. While the format is unknown, bytes are taken without squitters.
-    /// Those of the first items follow in later steps, which may have no bytes.
+    /// Those of the first items follow in later steps, which may have no bytes. So do the squitters of rows that waited
+    /// for others to confirm their times.
     ///
     /// `COPY` changes nothing. LLVM inlines a step that has one caller, and each number is a copy of its own: two
     /// loops of one program take two numbers.
@@ -59,13 +68,17 @@ impl Feed {
         into: &mut Timed,
     ) -> Step
         ensures fits { result.taken ≤ length piece.now }
-        ensures goes_on { (0 < length piece.now) ⊎ (0 < calls_left self.old.reader)
-            → calls_left self.new.reader < calls_left self.old.reader + calls_for result.taken }
+        ensures goes_on { (0 < length piece.now) ⊎ (0 < steps_left self.old)
+            → steps_left self.new < steps_left self.old + steps_for result.taken }
         ensures ended { IsEnding self.old.reader.stage → HasEnded self.new.reader }
         ensures told { HasTold arrival self.old (take result.taken piece.now) (stored result.is_filled into.new)
             self.new }
         ensures kept { result.is_filled ≡ false → into.new ≡ into.old }
+        ensures ready { 0 < length self.old.ready → self.new.reader ≡ self.old.reader }
     {
+        if !self.ready.is_empty() {
+            return self.step_ready(into);
+        }
         if let Some((message, taken)) = self.reader.whole_message(piece) {
             let is_filled = self.store(&message, arrival, into);
             return Step { taken, is_filled };
@@ -90,6 +103,15 @@ impl Feed {
         self.reader.close();
     }
 
+    /// Decides about rows that wait for others to confirm their times, since none comes: at the end of a source, once
+    /// all its squitters are given. Those that get timestamps come with the next steps.
+    pub fn settle(&mut self)
+        ensures { HasSettled self.old self.new }
+    {
+        let Feed { ear, ready, .. } = self;
+        ear.end_rows(ready);
+    }
+
     /// Returns the format of the source, once it is known.
     pub fn format(&self) -> Option<Format>
         ensures { result ≡ format_of_source self.now }
@@ -105,15 +127,24 @@ impl Feed {
         self.ear.stranger()
     }
 
-    /// Drops an unfinished frame after a lost connection, and counts it as damaged. The next bytes belong to a new
-    /// connection: its clock starts afresh.
+    /// Returns whether timestamps are the source's own, and not those of a receiver's clock or of arrivals.
+    pub fn is_dated(&self) -> bool
+        ensures { result ≡ is_dated self.now.ear.dates }
+    {
+        self.ear.is_dated()
+    }
+
+    /// Drops an unfinished frame after a lost connection, and counts it as damaged. Decides about rows that wait: those
+    /// that get timestamps come with the next steps. The next bytes belong to a new connection: its clock starts
+    /// afresh.
     pub fn disconnected(&mut self)
         ensures { HasLost self.old self.new }
     {
         let last = self.reader.cut_off();
         if let Some(found) = last {
-            let _ = self.ear.hear(&found, 0);
+            let _ = self.ear.hear(&found, 0, &mut self.ready);
         }
+        self.ear.end_rows(&mut self.ready);
         self.ear.restart();
         self.reader.restart();
     }
@@ -127,36 +158,57 @@ impl Feed {
 
     /// Returns whether a call with this many bytes has work to do: there are bytes, or squitters wait.
     pub fn goes_on(&self, bytes: usize) -> bool
-        ensures more { result ≡ true → (0 < bytes) ⊎ (0 < calls_left self.now.reader) }
-        ensures done { result ≡ false → (bytes ≡ 0) × (calls_left self.now.reader ≡ 0) }
+        ensures more { result ≡ true → (0 < bytes) ⊎ (0 < steps_left self.now) }
+        ensures done { result ≡ false → (bytes ≡ 0) × (steps_left self.now ≡ 0) }
     {
-        self.reader.goes_on(bytes)
+        self.reader.goes_on(bytes) || !self.ready.is_empty()
+    }
+
+    // Stores the first squitter that is ready.
+    #[cold]
+    #[inline(never)]
+    fn step_ready(&mut self, into: &mut Timed) -> Step
+        requires { 0 < length self.old.ready }
+        ensures taken { result.taken ≡ 0 }
+        ensures filled { result.is_filled ≡ true }
+        ensures same { (self.new.reader ≡ self.old.reader) × (self.new.ear ≡ self.old.ear) }
+        ensures told { into.new ∷ self.new.ready ≡ self.old.ready }
+    {
+        *into = self.ready.remove(0);
+        Step {
+            taken: 0,
+            is_filled: true,
+        }
     }
 
     // Hears a message, and stores its squitter, if it has one. Returns whether it has.
     #[inline(always)]
     fn store(&mut self, message: &Message, arrival: u64, into: &mut Timed) -> bool
+        requires { self.old.ready ≡ [] }
         ensures reader { self.new.reader ≡ self.old.reader }
         ensures heard { self.new.ear ≡ ear_after arrival self.old.ear (Found.Whole message.now) }
-        ensures told { stored result into.new ≡ told_of arrival self.old.ear (Found.Whole message.now) }
+        ensures told { stored result into.new ++ self.new.ready
+            ≡ told_of arrival self.old.ear (Found.Whole message.now) }
         ensures kept { result ≡ false → into.new ≡ into.old }
+        ensures few { length self.new.ready ≤ 3 }
     {
-        match self.ear.hear_message(message, arrival) {
+        match self.ear.hear_message(message, arrival, &mut self.ready) {
             Some(moment) => {
                 into.moment = moment;
                 into.frame = whole_of(&message.frame);
                 true
             }
-            None => false,
+            None => give_first(&mut self.ready, into),
         }
     }
 
     // Does what `step_into` does, for any piece.
     #[inline(never)]
     fn step_other(&mut self, piece: &[u8], arrival: u64, into: &mut Timed) -> Step
+        requires { self.old.ready ≡ [] }
         ensures fits { result.taken ≤ length piece.now }
-        ensures goes_on { (0 < length piece.now) ⊎ (0 < calls_left self.old.reader)
-            → calls_left self.new.reader < calls_left self.old.reader + calls_for result.taken }
+        ensures goes_on { (0 < length piece.now) ⊎ (0 < steps_left self.old)
+            → steps_left self.new < steps_left self.old + steps_for result.taken }
         ensures ended { IsEnding self.old.reader.stage → HasEnded self.new.reader }
         ensures told { HasTold arrival self.old (take result.taken piece.now) (stored result.is_filled into.new)
             self.new }
@@ -177,18 +229,34 @@ impl Feed {
 
     // Does what `store` does, for any item.
     fn store_item(&mut self, found: &Found, arrival: u64, into: &mut Timed) -> bool
+        requires { self.old.ready ≡ [] }
         ensures reader { self.new.reader ≡ self.old.reader }
         ensures heard { self.new.ear ≡ ear_after arrival self.old.ear found.now }
-        ensures told { stored result into.new ≡ told_of arrival self.old.ear found.now }
+        ensures told { stored result into.new ++ self.new.ready ≡ told_of arrival self.old.ear found.now }
         ensures kept { result ≡ false → into.new ≡ into.old }
+        ensures few { length self.new.ready ≤ 3 }
     {
-        match self.ear.hear(found, arrival) {
+        match self.ear.hear(found, arrival, &mut self.ready) {
             Some(moment) => {
                 into.moment = moment;
                 into.frame = frame_in(found);
                 true
             }
-            None => false,
+            None => give_first(&mut self.ready, into),
         }
     }
+}
+
+// Stores the first squitter that is ready, if there is one. Returns whether there is.
+fn give_first(ready: &mut Ready, into: &mut Timed) -> bool
+    ensures told { stored result into.new ++ ready.new.items ≡ ready.old.items }
+    ensures none { result ≡ false → ready.new.items ≡ [] }
+    ensures fewer { result ≡ true → length ready.new.items + 1 ≡ length ready.old.items }
+    ensures kept { result ≡ false → into.new ≡ into.old }
+{
+    if ready.is_empty() {
+        return false;
+    }
+    *into = ready.remove(0);
+    true
 }

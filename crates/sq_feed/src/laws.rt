@@ -4,14 +4,13 @@ ghost use Rattle.sq_feed.specs.Laws.{GivesTheStream, Sent, SentIsFound};
 ghost use Rattle.sq_feed.specs.Laws.{SentIsFoundAnywhere, StartSplits};
 ghost use Rattle.sq_feed.specs.Shown.{BeastIsShown, LineIsShown, SentBeastIsShown, SentTextIsShown};
 ghost use Rattle.sq_feed.specs.Avr.{BareFrameIsFound, SentFrameIsFound};
-ghost use Rattle.sq_feed.specs.Ears.{CountsEach, StaysNear};
+ghost use Rattle.sq_feed.specs.Ears.{CountsAtEnd, CountsEach, StaysNear, StaysNearAtEnd};
 ghost use Rattle.sq_feed.specs.Feeds.{FeedsBoth, FeedsGoOn, FeedsTheWhole};
 ghost use Rattle.sq_feed.specs.Follows.{FollowsMore};
 ghost use Rattle.sq_feed.specs.Clock.{KeepsTheTime};
 ghost use Rattle.sq_feed.specs.Rows.{LineIsRead};
-ghost use Rattle.sq_feed.specs.Orders.{GivesAll, GivesAtOnce, GivesInOrder};
-ghost use Rattle.sq_feed.specs.Orders.{GivesTheFirst, InTimeIsTimely, SortsStably};
-ghost use Rattle.sq_feed.specs.Orders.{SortsTheWhole};
+ghost use Rattle.sq_feed.specs.Orders.{AlwaysRises, CountsAll, CountsTheLate, GivesAll, GivesAtOnce, GivesInOrder};
+ghost use Rattle.sq_feed.specs.Orders.{GivesTheFirst, InTimeIsNotLate, SortsStably, SortsTheWhole};
 
 /// Sent messages are found, with any content and between any other bytes.
 pub fn sent_is_found()
@@ -67,13 +66,16 @@ pub fn feed_gives_the_whole()
     ensures both { FeedsBoth }
 {}
 
-/// An order neither loses nor duplicates a squitter. Suppose each is late by at most `reorder`, and fewer than 4096
-/// are recent at a time. Then the squitters given, followed by those held, are the input, sorted. How the input is
-/// cut into calls does not matter. With a `reorder` of 0, each squitter is given at once.
+/// The timestamps that an order gives rise, and each squitter that came was given, is held or was counted as late. If
+/// each is late by at most `reorder`, none is dropped. Then the squitters given, followed by those held, are the
+/// input, sorted. How the input is cut into calls does not matter. With a `reorder` of 0, none is held.
 pub fn orders_keep_all()
+    ensures rises { AlwaysRises }
+    ensures counted { CountsAll }
     ensures all { GivesAll }
+    ensures late { CountsTheLate }
     ensures sorted { GivesInOrder }
-    ensures in_time { InTimeIsTimely }
+    ensures in_time { InTimeIsNotLate }
     ensures stable { SortsStably }
     ensures whole { SortsTheWhole }
     ensures first { GivesTheFirst }
@@ -82,10 +84,13 @@ pub fn orders_keep_all()
 
 /// A timestamp of a feed is before the latest one by at most `late`.
 pub fn timestamps_stay_near()
-    ensures { StaysNear }
+    ensures items { StaysNear }
+    ensures end { StaysNearAtEnd }
 {}
 
-/// Each item is counted once, and each squitter with a timestamp is counted as written.
+/// Each item is counted once, and each squitter with a timestamp is counted as written. A row that waits for others to
+/// confirm its time is counted when that is decided, at the latest at the end.
 pub fn each_item_is_counted()
-    ensures { CountsEach }
+    ensures items { CountsEach }
+    ensures end { CountsAtEnd }
 {}

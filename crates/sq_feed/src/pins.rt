@@ -1,14 +1,17 @@
 //! Guards of the definitions: each has one value, some value or an exact condition, so none can be weakened unnoticed.
 //! A function with an empty body does nothing: its contract is the statement.
 ghost use Rattle.std.specs.Prelude.{◌≡◌, ◌≢◌, ◌↔◌, ◌++◌, codes, ◌+◌, ◌*◌, ◌^◌, ◌%◌, ◌<◌, ◌≤◌, ℕ, List, [], ◌∷◌, length};
-ghost use Rattle.std.specs.Prelude.{false, take};
+ghost use Rattle.std.specs.Prelude.{◌⊎◌, None, false, replicate, take};
 ghost use Rattle.std.specs.Prelude.{max, Option, Some, map, option_to_list, true};
 ghost use Rattle.sq_feed.specs.declared.message.Found.{Found as Item};
 ghost use Rattle.sq_feed.specs.Laws.{AreSent, AreTakes, IsFoundOnce, IsReadOnce, Sent};
 ghost use Rattle.sq_feed.specs.Avr.{AreHex, AvrSent, IsSent, avr_found, lead, mark_of};
-ghost use Rattle.sq_feed.specs.Ears.{AreNear, ear_after_all, lost, told_of_all};
+ghost use Rattle.sq_feed.specs.Dates.{HasRoom, waiting};
+ghost use Rattle.sq_feed.specs.declared.dates.Dates.{Dates as Waits};
+ghost use Rattle.sq_feed.specs.Ears.{AreNear, ear_after_all, ear_ended, lost, recorded_rows, row_at, row_times};
+ghost use Rattle.sq_feed.specs.Ears.{told_ended, told_of_all};
 ghost use Rattle.sq_feed.specs.Feeds.{AreFed, Fed, Feeding, HasClosedFeed, HasFed};
-ghost use Rattle.sq_feed.specs.Feeds.{HasLost, HasTold, stored};
+ghost use Rattle.sq_feed.specs.Feeds.{HasLost, HasSettled, HasTold, HasToldLast, steps_left, stored};
 ghost use Rattle.sq_feed.specs.Finding.{any_found, bare_item, marked_sign, millis_item};
 ghost use Rattle.sq_feed.specs.Kinds.{frame_len, message_len};
 ghost use Rattle.sq_feed.specs.Readers.{HasClosed, HasEnded, IsEnding, IsNew, Reads, awaited, calls_left, items_as};
@@ -18,10 +21,9 @@ ghost use Rattle.std.specs.List.{AllByRecursion};
 ghost use Rattle.sq_feed.specs.Clock.{AreHeardAt, AreSoon, Counted, Hearing, IsHeard};
 ghost use Rattle.sq_feed.specs.Rows.{BegunRow, IsHeld, csv_start, rows_from};
 ghost use Rattle.sq_feed.specs.declared.message.Timed.{Timed};
-ghost use Rattle.sq_feed.specs.Orders.{AllUntil, AreSorted, AreTimely, ComeInTime};
-ghost use Rattle.sq_feed.specs.Orders.{HasFlushed, HasSorted, RiseFrom, Sorted, Sorting};
-ghost use Rattle.sq_feed.specs.Orders.{count_of, given_all, is_recent, latest_of, nothing_sorted};
-ghost use Rattle.sq_feed.specs.Orders.{sorted_all, timed_at};
+ghost use Rattle.sq_feed.specs.Orders.{AreCalled, AreSorted, HasFlushed, HasSorted, IsCalled, RiseFrom, Sorted, Sorting};
+ghost use Rattle.sq_feed.specs.Orders.{given_all, last_given, late_all, nothing_sorted, sorted_all, timed_at};
+ghost use Rattle.sq_feed.specs.Units.{nothing_watched, regular, told_unit, unit_of, watched_all, watched_one};
 ghost use Rattle.sq_feed.specs.Stream.{Hold, Spell, Symbol, found_in};
 
 use crate::beast::Beast;
@@ -29,6 +31,7 @@ use crate::machine::Format;
 use crate::message::{Found, RawFrame, Stranger, Time};
 use crate::rows::Layout;
 use crate::signs::Sign;
+use crate::units::Unit;
 
 /// Any bytes encode exactly one list of symbols, and exactly one list of items is found in them.
 pub fn one_reading()
@@ -90,12 +93,39 @@ pub fn feeds_exactly()
         ↔ (HasFed one.arrival before one.bytes one.found one.after × AreFed one.after more) }
     ensures told { (arrival : ℕ) (old new : Feeding) (bytes : List ℕ) (told : List Timed)
         → HasTold arrival old bytes told new ↔ ((found : List Item) × HasFed arrival old bytes found new
-        × (told ≡ told_of_all arrival old.ear found)) }
+        × (told ++ new.ready ≡ old.ready ++ told_of_all arrival old.ear found)) }
     ensures stored { (slot : Timed) → (stored true slot ≡ slot ∷ []) × (stored false slot ≡ []) }
+    ensures room { (ready : List Timed) (d : Waits) → HasRoom ready d
+        ↔ ((length ready + length (waiting d) ≤ 4) × (length (waiting d) ≤ 3)) }
     ensures closed { (old new : Feeding) → HasClosedFeed old new
-        ↔ (HasClosed old.reader new.reader × (new.ear ≡ old.ear)) }
+        ↔ (HasClosed old.reader new.reader × (new.ear ≡ old.ear) × (new.ready ≡ old.ready)) }
+    ensures settled { (old new : Feeding) → HasSettled old new ↔ ((new.reader ≡ old.reader)
+        × (new.ear ≡ ear_ended old.ear) × (new.ready ≡ old.ready ++ told_ended old.ear)) }
+    ensures last { (arrival : ℕ) (old new : Feeding) (told : List Timed)
+        → HasToldLast false arrival old told new ↔ HasTold arrival old [] told new }
+    ensures whole { (arrival : ℕ) (old new : Feeding) (told : List Timed) → HasToldLast true arrival old told new
+        ↔ ((mid : Feeding) × (settled : Feeding) × (first : List Timed) × (second : List Timed)
+        × HasTold arrival old [] first mid × (steps_left mid ≡ 0) × HasSettled mid settled
+        × HasTold arrival settled [] second new × (told ≡ first ++ second)) }
     ensures lost { (old new : Feeding) → HasLost old new ↔ (IsNew old.reader.asked new.reader
-        × (new.ear ≡ lost (ear_after_all 0 old.ear (lost_items old.reader)))) }
+        × (new.ear ≡ lost (ear_after_all 0 old.ear (lost_items old.reader)))
+        × (new.ready ≡ old.ready ++ told_ended (ear_after_all 0 old.ear (lost_items old.reader)))) }
+{}
+
+/// The timestamps of rows, with a leap of ten minutes: regular rows; a first row alone, and before regular ones if its
+/// time is far ahead; one wild row after the first; rows that jump ahead by an hour; and rows that go back.
+pub fn rows_in_times()
+    ensures regular { row_times (1000 ∷ 2000 ∷ 601000 ∷ []) ≡ 1000 ∷ 2000 ∷ 601000 ∷ [] }
+    ensures first { row_times (1000 ∷ []) ≡ 1000 ∷ [] }
+    ensures waits { told_of_all 0 recorded_rows (map row_at (1000 ∷ [])) ≡ [] }
+    ensures wild { row_times (90000000 ∷ 1000 ∷ 2000 ∷ 3000 ∷ []) ≡ 1000 ∷ 2000 ∷ 3000 ∷ [] }
+    ensures second { row_times (1000 ∷ 90000000 ∷ 2000 ∷ []) ≡ 1000 ∷ 2000 ∷ [] }
+    ensures ahead { row_times (1000 ∷ 2000 ∷ 3602001 ∷ 3603000 ∷ 3604000 ∷ [])
+        ≡ 1000 ∷ 2000 ∷ 3602001 ∷ 3603000 ∷ 3604000 ∷ [] }
+    ensures two { row_times (1000 ∷ 2000 ∷ 602001 ∷ 3000 ∷ []) ≡ 1000 ∷ 2000 ∷ 3000 ∷ [] }
+    ensures back { row_times (9000000 ∷ 9001000 ∷ 5000 ∷ 6000 ∷ 7000 ∷ [])
+        ≡ 9000000 ∷ 9001000 ∷ 9601001 ∷ 9602001 ∷ 9603001 ∷ [] }
+    ensures late { row_times (5000 ∷ 6000 ∷ 5000 ∷ 4999 ∷ 7000 ∷ []) ≡ 5000 ∷ 6000 ∷ 6000 ∷ 7000 ∷ [] }
 {}
 
 /// A reader at the start of a source, and one after the end of its source.
@@ -133,43 +163,46 @@ pub fn formats_in_letters()
         ≡ Found.Damage ∷ millis_item 7 64 ∷ [] }
 {}
 
-/// The definitions about orders: timestamps that rise, and squitters that come in time.
+/// The definition of timestamps that rise.
 pub fn orders_exactly()
     ensures nothing { (moment : ℕ) → RiseFrom moment [] }
     ensures rising { (moment : ℕ) (one : Timed) (more : List Timed)
         → RiseFrom moment (one ∷ more) ↔ ((moment ≤ one.moment) × RiseFrom one.moment more) }
     ensures first { (moment : ℕ) (one : Timed) (more : List Timed) → RiseFrom moment (one ∷ more)
         → moment ≤ one.moment }
-    ensures until { (moment : ℕ) (one : Timed) (more : List Timed)
-        → AllUntil moment (one ∷ more) ↔ ((one.moment ≤ moment) × AllUntil moment more) }
-    ensures timely { (room : ℕ) (s : Sorting) (came : List Timed) → AreTimely room s came
-        ↔ ((before : List Timed) (one : Timed) (after : List Timed) → came ≡ before ++ one ∷ after
-        → AllUntil one.moment (given_all room s before)) }
-    ensures in_time { (room reorder : ℕ) (came : List Timed) → ComeInTime room reorder came
-        ↔ ((before : List Timed) (one : Timed) (after : List Timed) → came ≡ before ++ one ∷ after
-        → (latest_of 0 before ≤ one.moment + reorder)
-        × (count_of (is_recent reorder (latest_of 0 (before ++ one ∷ []))) (before ++ one ∷ []) < room)) }
 {}
 
 /// Calls of an order: squitters that came and were given, in parts of any size, and what a flush gives.
 pub fn sortings_exactly()
-    ensures sorted { (room : ℕ) (old new : Sorting) (came given : List Timed) → HasSorted room old came given new
-        ↔ (((more : List Timed) → given_all room old (came ++ more) ≡ given ++ given_all room new more)
-        × ((more : List Timed) → sorted_all room old (came ++ more) ≡ sorted_all room new more)) }
+    ensures sorted { (old new : Sorting) (came given : List Timed) → HasSorted old came given new
+        ↔ (((more : List Timed) → given_all old (came ++ more) ≡ given ++ given_all new more)
+        × ((more : List Timed) → sorted_all old (came ++ more) ≡ sorted_all new more)
+        × (new.given ≡ last_given old.given given)) }
     ensures flushed { (old new : Sorting) (given : List Timed) → HasFlushed old given new
-        ↔ ((given ++ new.held ≡ old.held) × (new.reorder ≡ old.reorder) × (new.latest ≡ old.latest)) }
-    ensures none { (room : ℕ) (before : Sorting) → AreSorted room before [] }
-    ensures calls { (room : ℕ) (before : Sorting) (one : Sorted) (more : List Sorted)
-        → AreSorted room before (one ∷ more)
-        ↔ (HasSorted room before one.came one.given one.after × AreSorted room one.after more) }
+        ↔ ((given ++ new.held ≡ old.held) × (new.given ≡ last_given old.given given)
+        × (new.reorder ≡ old.reorder) × (new.latest ≡ old.latest) × (new.late ≡ old.late)) }
+    ensures none { (before : Sorting) → AreSorted before [] }
+    ensures calls { (before : Sorting) (one : Sorted) (more : List Sorted) → AreSorted before (one ∷ more)
+        ↔ (HasSorted before one.came one.given one.after × AreSorted one.after more) }
+    ensures called { (before : Sorting) (one : Sorted) → IsCalled before one
+        ↔ (HasSorted before one.came one.given one.after
+        ⊎ ((one.came ≡ []) × HasFlushed before one.given one.after)) }
+    ensures all_called { (before : Sorting) (one : Sorted) (more : List Sorted) → AreCalled before (one ∷ more)
+        ↔ (IsCalled before one × AreCalled one.after more) }
+    ensures none_called { (before : Sorting) → AreCalled before [] }
 {}
 
-/// Examples of an order: delays of 5 and 50 ms, and an order that is full.
+/// Examples of an order with a delay of 5 ms: at 12, 8 is not due, and at 13 it is. Then 7 is late, and 8 is not.
 pub fn orders_in_numbers()
-    ensures given { given_all 5 (nothing_sorted 5) (map timed_at (10 ∷ 8 ∷ 12 ∷ 9 ∷ 13 ∷ [])) ≡ map timed_at (8 ∷ []) }
-    ensures held { (sorted_all 5 (nothing_sorted 5) (map timed_at (10 ∷ 8 ∷ 12 ∷ 13 ∷ []))).held
+    ensures given { given_all (nothing_sorted 5) (map timed_at (10 ∷ 8 ∷ 12 ∷ 9 ∷ 13 ∷ 7 ∷ 8 ∷ []))
+        ≡ map timed_at (8 ∷ 8 ∷ []) }
+    ensures held { (sorted_all (nothing_sorted 5) (map timed_at (10 ∷ 8 ∷ 12 ∷ 13 ∷ 7 ∷ []))).held
         ≡ map timed_at (10 ∷ 12 ∷ 13 ∷ []) }
-    ensures full { given_all 3 (nothing_sorted 50) (map timed_at (10 ∷ 12 ∷ 9 ∷ 8 ∷ [])) ≡ map timed_at (9 ∷ 8 ∷ []) }
+    ensures late { late_all (nothing_sorted 5) (map timed_at (10 ∷ 8 ∷ 12 ∷ 7 ∷ 13 ∷ 6 ∷ 7 ∷ 8 ∷ []))
+        ≡ map timed_at (6 ∷ 7 ∷ []) }
+    ensures counted { (sorted_all (nothing_sorted 5) (map timed_at (10 ∷ 8 ∷ 13 ∷ 7 ∷ 6 ∷ 8 ∷ []))).late ≡ 2 }
+    ensures last { (sorted_all (nothing_sorted 5) (map timed_at (10 ∷ 8 ∷ 12 ∷ 13 ∷ []))).given ≡ 8 }
+    ensures waiting { given_all (nothing_sorted 5) (map timed_at (10 ∷ 8 ∷ 12 ∷ [])) ≡ [] }
 {}
 
 /// A row counts as too long only once it holds 512 bytes.
@@ -232,4 +265,33 @@ pub fn rows_in_letters()
           frame = RawFrame.ModeAc (32 ∷ 64 ∷ []);
         }) ∷ [] }
     ensures damaged { rows_from csv_start [] (codes "1.5x,x,2040") ≡ Found.Damage ∷ [] }
+{}
+
+/// The unit of recordings with the squitters of one aircraft, which come at regular times. Sixteen gaps are the fewest.
+pub fn units_exactly()
+    ensures seconds { told_unit false (regular 17 1795965328 10) ≡ Some Unit.Seconds }
+    ensures few { told_unit false (regular 16 1795965328 10) ≡ None }
+    ensures slow { told_unit false (regular 17 1795965328 99) ≡ Some Unit.Seconds }
+    ensures dense { told_unit false (regular 17 1795965328 100) ≡ None }
+    ensures from_zero { told_unit false (regular 17 5 49) ≡ Some Unit.Seconds }
+    ensures usual { told_unit false (regular 17 5 50) ≡ None }
+    ensures micros { told_unit false (regular 17 0 100000) ≡ Some Unit.Microseconds }
+    ensures sparse { told_unit false (regular 17 0 99999) ≡ None }
+    ensures hours { told_unit false (regular 17 0 43200000) ≡ None }
+    ensures nanos { told_unit false (regular 17 0 100000000) ≡ Some Unit.Nanoseconds }
+    ensures days { told_unit false (regular 17 0 86400000) ≡ None }
+    ensures in_ms { told_unit false (regular 17 1795965328000 500000) ≡ None }
+    ensures in_us { told_unit false (regular 17 1795965328000000 50000) ≡ Some Unit.Microseconds }
+    ensures in_ns { told_unit false (regular 17 1795965328000000000 50000) ≡ Some Unit.Nanoseconds }
+    ensures zeros { told_unit true (regular 2 0 0) ≡ Some Unit.AllZero }
+    ensures one { told_unit true (regular 1 0 0) ≡ None }
+    ensures gps { told_unit true (regular 17 0 89479) ≡ Some Unit.Gps }
+    ensures clock { told_unit true (regular 17 0 9999) ≡ None }
+    ensures unclocked { told_unit false (regular 17 0 89479) ≡ None }
+    ensures live { unit_of true true (watched_all nothing_watched (regular 640 5 10007)) ≡ None }
+    ensures gps_live { unit_of true true (watched_all nothing_watched (regular 640 88000 89479))
+        ≡ Some Unit.Gps }
+    ensures begins { told_unit true (regular 17 89478 89479) ≡ Some Unit.Gps }
+    ensures left_out { told_unit true (regular 17 83886 89479) ≡ None }
+    ensures others { watched_one nothing_watched (record { moment = 5; frame = replicate 14 0 }) ≡ nothing_watched }
 {}

@@ -1,12 +1,10 @@
-//! The timestamps of frames: by their receiver's clock, by their arrival, or their own.
+//! The timestamps of frames: by their receiver's clock or by their arrival.
 ghost use Rattle.std.specs.Prelude.{◌≡◌, ◌+◌, ◌*◌, ◌≤◌, ℕ, IfSome, MatchOption, false, true};
-ghost use Rattle.sq_feed.specs.Times.{anew_of, by_arrival, by_clock, by_own, clock_moment, due, gone_on, is_clock_told};
-ghost use Rattle.sq_feed.specs.Times.{is_own_told, is_row_fit, is_told_at, moment_at, no_times, other_times, row_agrees};
-ghost use Rattle.sq_feed.specs.Times.{times_after, told_as, waited};
+ghost use Rattle.sq_feed.specs.Times.{anew_of, by_arrival, by_clock, by_ticks, clock_leap, clock_moment, due, gone_on};
+ghost use Rattle.sq_feed.specs.Times.{is_clock_told, is_near, is_ticks_told, no_times, other_times, ticks_moment, told_as, waited};
 
 use crate::clock::Clock;
 use crate::manner::Manner;
-use crate::message::Time;
 use std::marker::Model;
 
 // The ticks of a millisecond.
@@ -15,8 +13,8 @@ const RATE: u64 = 12_000;
 // A row's time may always be late by this many milliseconds.
 const JITTER: u64 = 1000;
 
-// The number of rows in succession that confirm a jump.
-const AGREEING: u8 = 3;
+// A day in milliseconds.
+const DAY: u64 = 86_400_000;
 
 /// Gives frames their timestamps (ms). Each is before the latest one by at most `Manner::late`.
 #[derive(Drop)]
@@ -29,13 +27,9 @@ pub struct Times {
     latest: u64,
     arrival: u64,
     read_at: u64,
-    is_dated: bool,
-    aside: u64,
-    votes: u8,
 }
 
 impl Model for Times {
-    ghost use Rattle.std.specs.Prelude.{◌<◌};
     ghost use Rattle.sq_feed.specs.Times.{Timing};
 
     ghost Value = { Timing };
@@ -49,12 +43,7 @@ impl Model for Times {
       latest = s.latest;
       arrival = s.arrival;
       read_at = s.read_at;
-      is_dated = s.is_dated;
-      aside = s.aside;
-      votes = s.votes;
     } };
-
-    ghost invariant = { λ s. s.votes < 3 };
 }
 
 impl Times {
@@ -64,6 +53,7 @@ impl Times {
     {
         Times {
             clock: Clock::new(
+                clock_leap(manner).saturating_mul(RATE),
                 manner.leap.saturating_mul(RATE),
                 manner.late.saturating_mul(RATE),
             ),
@@ -74,35 +64,25 @@ impl Times {
             latest: 0,
             arrival: 0,
             read_at: 0,
-            is_dated: false,
-            aside: 0,
-            votes: 0,
         }
     }
 
-    /// Takes the time that a source states for a frame, and the frame's arrival (ms). Returns the frame's timestamp,
-    /// or `None` if the time is set aside. A frame without a time, in a live source, is as much after the latest
-    /// frame as their arrivals are apart. In a recorded source it gets the latest timestamp, or 0. A time that is
-    /// before the latest timestamp by more than `late` is moved to `late` before it.
+    /// Takes a value of the receiver's clock, and the frame's arrival (ms). Returns the frame's timestamp, or `None` if
+    /// the value is set aside.
     #[inline(always)]
-    pub fn hear(&mut self, time: Time, arrival: u64) -> Option<u64>
-        ensures kept { self.new ≡ times_after self.old time arrival }
-        ensures told { MatchOption result (is_told_at self.old time arrival ≡ false)
-            (λ moment. (is_told_at self.old time arrival ≡ true) × (moment ≡ moment_at self.old time arrival)) }
+    pub fn hear_ticks(&mut self, ticks: u64, arrival: u64) -> Option<u64>
+        ensures kept { self.new ≡ by_ticks self.old ticks arrival }
+        ensures told { MatchOption result (is_ticks_told self.old ticks arrival ≡ false)
+            (λ moment. (is_ticks_told self.old ticks arrival ≡ true)
+            × (moment ≡ told_as self.old (ticks_moment self.old ticks arrival))) }
         ensures near { IfSome result (λ moment. (moment ≤ self.new.latest)
             × (self.new.latest ≤ moment + self.old.late)) }
         ensures goes_on { self.old.latest ≤ self.new.latest }
     {
-        match time {
-            Time::Unknown => Some(self.hear_arrival(arrival)),
-            Time::Ticks(ticks) => {
-                if ticks == 0 || self.ignores_clock {
-                    Some(self.hear_arrival(arrival))
-                } else {
-                    self.hear_clock(ticks, arrival)
-                }
-            }
-            Time::Millis(moment) => self.hear_own(moment, arrival),
+        if ticks == 0 || self.ignores_clock {
+            Some(self.hear_arrival(arrival))
+        } else {
+            self.hear_clock(ticks, arrival)
         }
     }
 
@@ -113,8 +93,9 @@ impl Times {
         self.clock.restart();
     }
 
-    // Takes the arrival (ms) of a frame without a time.
-    fn hear_arrival(&mut self, arrival: u64) -> u64
+    /// Takes the arrival (ms) of a frame without a time, and returns its timestamp. In a live source, it is as much
+    /// after the latest frame as their arrivals are apart. In a recorded source it is the latest timestamp, or 0.
+    pub fn hear_arrival(&mut self, arrival: u64) -> u64
         ensures kept { self.new ≡ by_arrival self.old arrival }
         ensures told { result ≡ told_as self.old (due self.old arrival) }
         ensures near { (result ≤ self.new.latest) × (self.new.latest ≤ result + self.old.late) }
@@ -146,55 +127,44 @@ impl Times {
         }
     }
 
-    // Takes a row's own time (ms).
-    fn hear_own(&mut self, moment: u64, arrival: u64) -> Option<u64>
-        ensures kept { self.new ≡ by_own self.old moment arrival }
-        ensures told { MatchOption result (is_own_told self.old moment ≡ false)
-            (λ told. (is_own_told self.old moment ≡ true) × (told ≡ told_as self.old moment)) }
-        ensures near { IfSome result (λ told. (told ≤ self.new.latest) × (self.new.latest ≤ told + self.old.late)) }
-        ensures goes_on { self.old.latest ≤ self.new.latest }
-    {
-        if self.is_row_fit(moment) {
-            self.is_dated = true;
-            self.votes = 0;
-            return Some(self.go_on(moment, arrival));
-        }
-        if moment < self.latest {
-            return None;
-        }
-        if !self.row_agrees(moment) {
-            self.aside = moment;
-            self.votes = 1;
-            return None;
-        }
-        self.aside = moment;
-        if self.votes == AGREEING - 1 {
-            return Some(self.go_on(moment, arrival));
-        }
-        self.votes += 1;
-        None
-    }
-
-    // Returns whether a row's time follows the latest timestamp within a leap, or is late by at most `late`, or by at
-    // most a second. The first time of a row always fits.
-    fn is_row_fit(&self, moment: u64) -> bool
-        ensures { result ≡ is_row_fit self.now moment }
-    {
-        !self.is_dated
-            || self.latest <= moment.saturating_add(self.late.max(JITTER))
-                && moment <= self.latest.saturating_add(self.leap)
-    }
-
-    // Returns whether a row's time is at or after the one that was set aside.
-    fn row_agrees(&self, moment: u64) -> bool
-        ensures { result ≡ row_agrees self.now moment }
-    {
-        self.votes != 0 && self.aside <= moment
-    }
-
-    // Takes the time (ms) of a frame, and returns its timestamp.
+    /// Returns whether a time is after another by at most a leap, or late by at most `late` or a second.
     #[inline(always)]
-    fn go_on(&mut self, moment: u64, arrival: u64) -> u64
+    pub(crate) fn is_near(&self, base: u64, moment: u64) -> bool
+        ensures { result ≡ is_near self.now base moment }
+    {
+        if base <= moment {
+            moment - base <= self.leap
+        } else {
+            base - moment <= self.late.max(JITTER)
+        }
+    }
+
+    /// Returns the latest timestamp (ms).
+    #[inline(always)]
+    pub(crate) fn latest(&self) -> u64
+        ensures { result ≡ self.now.latest }
+    {
+        self.latest
+    }
+
+    /// Returns the arrival (ms) of the frame with the latest timestamp.
+    pub(crate) fn arrival(&self) -> u64
+        ensures { result ≡ self.now.arrival }
+    {
+        self.arrival
+    }
+
+    /// Returns the longest gap (ms) that is no jump.
+    pub(crate) fn leap(&self) -> u64
+        ensures { result ≡ self.now.leap }
+    {
+        self.leap
+    }
+
+    /// Takes the time (ms) of a frame, and returns its timestamp. A time that is before the latest timestamp by more
+    /// than `late` is moved to `late` before it.
+    #[inline(always)]
+    pub fn go_on(&mut self, moment: u64, arrival: u64) -> u64
         ensures kept { self.new ≡ gone_on self.old moment arrival }
         ensures told { result ≡ told_as self.old moment }
         ensures near { (result ≤ self.new.latest) × (self.new.latest ≤ result + self.old.late) }
@@ -243,5 +213,17 @@ impl Times {
         } else {
             None
         }
+    }
+}
+
+// Returns the longest gap (ms) of a receiver's clock that is no jump. In a recorded source, receivers are silent for
+// hours, and no arrival says so.
+fn clock_leap(manner: &Manner) -> u64
+    ensures { result ≡ clock_leap manner.now }
+{
+    if manner.is_live {
+        manner.leap
+    } else {
+        manner.leap.max(DAY)
     }
 }

@@ -12,7 +12,7 @@ pub returns-in-Some-clause-told : goal.returns-in-Some-clause-told
 returns-in-Some-clause-told c =
     let piece = take c.take-taken.result.0 c.args.piece.now in
     told_one c.args.arrival c.args.self.now c.store_item-is_filled.new.self piece c.in-Some.found
-    (stored c.store_item-is_filled.result c.store_item-is_filled.new.into)
+    (stored c.store_item-is_filled.result c.store_item-is_filled.new.into) c.requires
     (ap (λ (r : Reads). r.asked) c.store_item-is_filled.ensures.reader ∙ c.take-taken.ensures.asked
     ∙ ap (λ (v : Feeding). v.reader.asked) c.self.view_is)
     (subst (λ (r : Reads). Follows (awaited c.args.self.now.reader) piece (c.in-Some.found ∷ []) (awaited r))
