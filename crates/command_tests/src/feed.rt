@@ -16,6 +16,10 @@ const AVR: &[u8] = b"*8D40621D58C382D690C8AC2863A7;\n*8D40621D58C386435CC412692A
 // Their lines without arrivals.
 const UNTIMED: &[u8] = b"0 8D40621D58C382D690C8AC2863A7\n0 8D40621D58C386435CC412692AD6\n";
 
+// What is reported of them.
+const ZEROS: &str =
+    "all frames of this file have the timestamp 0, as without times: old ones pair with new\n2 written\n";
+
 // The same frames with clocks of 24,000 and 36,000 ticks.
 const BEAST: &[u8] =
     b"\x1a3\x00\x00\x00\x00\x5d\xc0\x10\x8d\x40\x62\x1d\x58\xc3\x82\xd6\x90\xc8\xac\x28\x63\xa7\x1a3\x00\x00\x00\x00\x8c\xa0\x10\x8d\x40\x62\x1d\x58\xc3\x86\x43\x5c\xc4\x12\x69\x2a\xd6";
@@ -36,13 +40,14 @@ const PLAIN: FeedOptions = FeedOptions {
 
 // `run_feed` without its clauses.
 fn feed(
+    alloc: Global,
     format: Option<SourceFormat>,
     clock: &mut impl Clock,
     source: &mut impl Source,
     sink: &mut impl Sink,
 ) -> Result<FeedEnd, RunFault> {
     let options = FeedOptions { format, ..PLAIN };
-    run_feed(&options, clock, source, sink)
+    run_feed(alloc, &options, clock, source, sink)
 }
 
 // Asserts the output of a run with a clock, and that it counts two frames.
@@ -56,7 +61,7 @@ fn assert_fed(
 ) {
     let mut source = source_of(pieces);
     let mut sink = sink_of(Vec::new(alloc));
-    match feed(format, clock, &mut source, &mut sink) {
+    match feed(alloc, format, clock, &mut source, &mut sink) {
         Ok(end) => {
             assert!(rt; end.counts.written() == 2 && end.counts.found() == 2);
             assert!(rt; end.stranger.is_none());
@@ -93,7 +98,7 @@ fn feeds_formats_in_pieces(rt: HostRuntime) {
 fn sources_without_frames_are_told(rt: HostRuntime) {
     let mut source = source_of(pieces_of(b"MSG,3\n", 1, usize::MAX));
     let mut sink = sink_of(Vec::new(rt.alloc()));
-    match feed(None, &mut NoClock, &mut source, &mut sink) {
+    match feed(rt.alloc(), None, &mut NoClock, &mut source, &mut sink) {
         Ok(end) => match end.stranger {
             Some(Stranger::Sbs) => assert!(rt;
                 end.counts.found() == 1 && end.counts.damaged() == 1
@@ -150,6 +155,7 @@ fn assert_unread(rt: &impl Abort, alloc: Global, fails_at: usize, written: usize
     let mut source = source_of(pieces_of(AVR, 7, fails_at));
     let mut sink = sink_of(Vec::new(alloc));
     match feed(
+        alloc,
         Some(SourceFormat::Avr),
         &mut NoClock,
         &mut source,
@@ -174,10 +180,11 @@ fn writes_what_was_read_before_a_fault(rt: HostRuntime) {
 }
 
 // Asserts that the sink fails, and how much of the lines it took.
-fn assert_unwritten(rt: &impl Abort, room: Room, count: usize) {
+fn assert_unwritten(rt: &impl Abort, alloc: Global, room: Room, count: usize) {
     let mut source = source_of(AVR);
     let mut sink = sink_of(room);
     match feed(
+        alloc,
         Some(SourceFormat::Avr),
         &mut NoClock,
         &mut source,
@@ -193,12 +200,17 @@ fn assert_unwritten(rt: &impl Abort, room: Room, count: usize) {
 #[test]
 fn leaves_what_a_writer_took_of_a_feed(rt: HostRuntime) {
     for room in 0..UNTIMED.len() {
-        assert_unwritten(&rt, room_of(rt.alloc(), room, End::Error), room);
-        assert_unwritten(&rt, room_of(rt.alloc(), room, End::Nothing), room);
+        assert_unwritten(&rt, rt.alloc(), room_of(rt.alloc(), room, End::Error), room);
+        assert_unwritten(
+            &rt,
+            rt.alloc(),
+            room_of(rt.alloc(), room, End::Nothing),
+            room,
+        );
     }
     let mut stuck = room_of(rt.alloc(), 1000, End::Error);
     stuck.flushes = false;
-    assert_unwritten(&rt, stuck, UNTIMED.len());
+    assert_unwritten(&rt, rt.alloc(), stuck, UNTIMED.len());
 }
 
 // `feed` with a format.
@@ -244,7 +256,7 @@ fn reads_the_format_that_a_word_names(rt: HostRuntime) {
     assert_summed_up(&rt, alloc, None, BEAST, LOG, "2 written\n");
     assert_summed_up(&rt, alloc, Some("auto"), BEAST, LOG, "2 written\n");
     assert_summed_up(&rt, alloc, Some("beast"), BEAST, LOG, "2 written\n");
-    assert_summed_up(&rt, alloc, Some("avr"), AVR, UNTIMED, "2 written\n");
+    assert_summed_up(&rt, alloc, Some("avr"), AVR, UNTIMED, ZEROS);
     assert_summed_up(&rt, alloc, Some("csv"), CSV, LOG, "2 written\n");
     assert_summed_up(&rt, alloc, Some("log"), LOG, LOG, "2 written\n");
 }
@@ -270,16 +282,17 @@ fn refuses_milliseconds_that_are_no_number(rt: HostRuntime) {
     }
 }
 
-// Two frames with a clock. The second clock is eleven minutes later.
+// Two frames with a clock. The second clock is 25 hours later: a day is no jump in a recorded source.
 const JUMPING: &[u8] =
-    b"@000000002EE08D40621D58C382D690C8AC2863A7;\n@0001D811CAE08D40621D58C386435CC412692AD6;\n";
+    b"@000000002EE08D40621D58C382D690C8AC2863A7;\n@00FB75045EE08D40621D58C386435CC412692AD6;\n";
 
 #[test]
 fn a_leap_decides_what_jumps(rt: HostRuntime) {
-    let lines = b"1 8D40621D58C382D690C8AC2863A7\n660001 8D40621D58C386435CC412692AD6\n";
+    let lines = b"1 8D40621D58C382D690C8AC2863A7\n90000001 8D40621D58C386435CC412692AD6\n";
     for (leap, count, summary) in [
-        ("659999", 31, "1 written, 1 set aside\n"),
-        ("660000", 67, "2 written\n"),
+        ("89999999", 31, "1 written, 1 set aside\n"),
+        ("1", 31, "1 written, 1 set aside\n"),
+        ("90000000", 69, "2 written\n"),
     ] {
         let ran = outcome_on(rt.alloc(), words_of(None, Some(leap)), JUMPING);
         assert!(rt; ran.written.as_slice() == &lines[..count]);
@@ -295,7 +308,16 @@ fn arrivals_in_place_of_the_clock(rt: HostRuntime) {
     };
     let mut source = source_of(JUMPING);
     let mut sink = sink_of(Vec::new(rt.alloc()));
-    assert!(rt; run_feed(&options, &mut Ticking { next: 7 }, &mut source, &mut sink).is_ok());
+    assert!(rt;
+        run_feed(
+            rt.alloc(),
+            &options,
+            &mut Ticking { next: 7 },
+            &mut source,
+            &mut sink
+        )
+        .is_ok()
+    );
     let lines = b"7 8D40621D58C382D690C8AC2863A7\n7 8D40621D58C386435CC412692AD6\n";
     assert!(rt; taken(sink).as_slice() == lines.as_slice());
 }
@@ -386,7 +408,7 @@ fn assert_sorted(rt: &impl Abort, alloc: Global, reorder: u64, all_formats: bool
         };
         let mut source = source_of(pieces_of(LATE, size, usize::MAX));
         let mut sink = sink_of(Vec::new(alloc));
-        assert!(rt; run_feed(&options, &mut NoClock, &mut source, &mut sink).is_ok());
+        assert!(rt; run_feed(alloc, &options, &mut NoClock, &mut source, &mut sink).is_ok());
         assert!(rt; taken(sink).as_slice() == lines);
     }
 }
@@ -398,6 +420,39 @@ fn sorts_frames_that_come_late(rt: HostRuntime) {
     assert_sorted(&rt, rt.alloc(), u64::MAX, false, sorted);
     let late = b"5 8D40621D58C382D690C8AC2863A7\n5 8D40621D58C386435CC412692AD6\n";
     assert_sorted(&rt, rt.alloc(), 0, false, late);
+}
+
+// Each frame comes before all that came so far, and all wait for the end: the order grows with them.
+#[test]
+fn sorts_as_many_as_come(rt: HostRuntime) {
+    let options = FeedOptions {
+        format: Some(SourceFormat::Log),
+        reorder: u64::MAX,
+        ..PLAIN
+    };
+    let mut lines = Vec::new(rt.alloc());
+    let mut wanted = Vec::new(rt.alloc());
+    for number in 0..5_000u64 {
+        if !push_line(&mut lines, 9_999 - number) || !push_line(&mut wanted, 5_000 + number) {
+            return;
+        }
+    }
+    let mut source = source_of(pieces_of(lines.leak(), 4096, usize::MAX));
+    let mut sink = sink_of(Vec::new(rt.alloc()));
+    assert!(rt; run_feed(rt.alloc(), &options, &mut NoClock, &mut source, &mut sink).is_ok());
+    assert!(rt; taken(sink).as_slice() == wanted.as_slice());
+}
+
+// Appends the line of a frame with this timestamp, of four digits. Returns whether there was memory for it.
+fn push_line(lines: &mut Vec<u8>, moment: u64) -> bool {
+    for scale in [1000, 100, 10, 1] {
+        if lines.push(b'0' + (moment / scale % 10) as u8).is_err() {
+            return false;
+        }
+    }
+    lines
+        .extend_from_slice(b" 8D40621D58C382D690C8AC2863A7\n")
+        .is_ok()
 }
 
 #[test]
@@ -415,12 +470,12 @@ fn leaves_a_live_source_without_frames(rt: HostRuntime) {
     let mut source = source_of(pieces_of(FRAMELESS, 64, 16_384));
     let mut sink = sink_of(Vec::new(rt.alloc()));
     let mut clock = Ticking { next: 0 };
-    match feed(None, &mut clock, &mut source, &mut sink) {
+    match feed(rt.alloc(), None, &mut clock, &mut source, &mut sink) {
         Ok(end) => assert!(rt; matches!(end.stranger, Some(Stranger::NoFrame))),
         Err(_) => assert!(rt; false),
     }
     let mut recorded = source_of(pieces_of(FRAMELESS, 64, 16_384));
-    match feed(None, &mut NoClock, &mut recorded, &mut sink) {
+    match feed(rt.alloc(), None, &mut NoClock, &mut recorded, &mut sink) {
         Err(RunFault::Read) => {}
         _ => assert!(rt; false),
     }

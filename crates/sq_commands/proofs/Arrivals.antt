@@ -1,18 +1,23 @@
 -- Arrivals do not matter where the input is not live.
-use Rattle.std.proofs.Common.{◌≡◌, ◌∙◌, ◌++◌, ℕ, Bool, true, false, List, [], ◌∷◌, Option, None, Some, ap, ap₂, refl, subst, sym}
-use Rattle.std.specs.Prelude.{◌==◌, ◌+◌, nat_le, nat_lt, not, if◌then◌else◌}
-use Rattle.sq_feed.specs.Counts.{counted}
+use Rattle.std.proofs.Common.{◌≡◌, ◌∙◌, ◌++◌, ℕ, Bool, true, false, List, [], ◌∷◌, Option, None, Some, ap, ap₂, length, refl, subst, sym}
+use Rattle.std.specs.Prelude.{nat_le, if◌then◌else◌}
+use Rattle.sq_feed.specs.Counts.{counted, counted_rows}
+use Rattle.sq_feed.specs.Dates.{Judged, ended, gone_all, judged, own, timed_all}
+use Rattle.sq_feed.specs.declared.dates.Dates.{Dates}
+use Rattle.sq_feed.specs.declared.dates.First.{First}
+use Rattle.sq_feed.specs.declared.dates.First.TheVariants.{NoRow, Waits, Believed}
+use Rattle.sq_feed.specs.declared.dates.Run.{Run}
+use Rattle.sq_feed.specs.declared.dates.Run.TheVariants.{Empty, One, Two}
+use Rattle.sq_feed.specs.declared.message.Message.{Message}
 use Rattle.sq_feed.specs.declared.message.Timed.{Timed}
-use Rattle.sq_feed.specs.Ears.{Hears, ear_after, ear_after_all, ear_by, fate_of, told_by, told_of, told_of_all}
-use Rattle.sq_feed.specs.Ears.{whole_of}
-use Rattle.sq_feed.specs.Times.{Timing, by_arrival, by_clock, by_own, clock_after, clock_moment, due, gone_on}
-use Rattle.sq_feed.specs.Times.{is_clock_told, is_clockless, is_row_fit, is_told_at, moment_at, row_agrees}
-use Rattle.sq_feed.specs.Times.{times_after}
+use Rattle.sq_feed.specs.Ears.{Hears, ear_after, ear_after_all, ear_at, ear_by, ear_ended, ear_judged, fate_of}
+use Rattle.sq_feed.specs.Ears.{row_judged, told_at, told_by, told_ended, told_judged, told_of, told_of_all, whole_of}
+use Rattle.sq_feed.specs.Times.{Timing, by_arrival, by_clock, by_ticks, clock_after, clock_moment, due, gone_on}
+use Rattle.sq_feed.specs.Times.{is_clock_told, is_clockless, is_ticks_told, ticks_moment, told_as}
 use Rattle.sq_feed.specs.declared.counts.Fate.{Fate}
 use Rattle.sq_feed.specs.declared.counts.Fate.TheVariants.{Written, Aside}
 use Rattle.sq_feed.specs.declared.message.Found.{Found}
 use Rattle.sq_feed.specs.declared.message.Found.TheVariants.{Whole, Damage, Foreign, ReceiverId}
-use Rattle.sq_feed.specs.declared.message.RawFrame.{RawFrame}
 use Rattle.sq_feed.specs.declared.message.Time.{Time}
 use Rattle.sq_feed.specs.declared.message.Time.TheVariants.{Unknown, Ticks, Millis}
 
@@ -35,11 +40,9 @@ live_if false x y live p q = q
 
 -- ---- one frame
 
-told_frozen : (t : Timing) (time : Time) (arrival : ℕ)
-    → is_told_at (frozen t) time arrival ≡ is_told_at (still (frozen t)) time 0
-told_frozen t Unknown arrival = refl
-told_frozen t (Ticks ticks) arrival = refl
-told_frozen t (Millis moment) arrival = refl
+told_frozen : (t : Timing) (ticks arrival : ℕ)
+    → is_ticks_told (frozen t) ticks arrival ≡ is_ticks_told (still (frozen t)) ticks 0
+told_frozen t ticks arrival = refl
 
 gone_still : (t : Timing) (moment arrival : ℕ) → still (gone_on t moment arrival) ≡ still (gone_on (still t) moment 0)
 gone_still t moment arrival =
@@ -56,38 +59,16 @@ clock_still t ticks arrival =
     (gone_on (still heard) (clock_moment f ticks arrival) 0) aside (still aside)
     (gone_still heard (clock_moment f ticks arrival) arrival) refl
 
-own_still : (t : Timing) (moment arrival : ℕ) → still (by_own t moment arrival) ≡ still (by_own (still t) moment 0)
-own_still t moment arrival =
-    let fit = record t { is_dated = true; votes = 0 } in
-    let first = record t { aside = moment; votes = 1 } in
-    let last = record t { aside = moment } in
-    let next = record t { aside = moment; votes = t.votes + 1 } in
-    let third = if t.votes == 2 then gone_on last moment arrival else next in
-    let third' = if t.votes == 2 then gone_on (still last) moment 0 else still next in
-    let jump = if not (row_agrees t moment) then first else third in
-    let jump' = if not (row_agrees t moment) then still first else third' in
-    still_if (is_row_fit t moment) (gone_on fit moment arrival) (gone_on (still fit) moment 0)
-    (if nat_lt moment t.latest then t else jump) (if nat_lt moment t.latest then still t else jump')
-    (gone_still fit moment arrival)
-    (still_if (nat_lt moment t.latest) t (still t) jump jump' refl
-    (still_if (not (row_agrees t moment)) first (still first) third third' refl
-    (still_if (t.votes == 2) (gone_on last moment arrival) (gone_on (still last) moment 0) next (still next)
-    (gone_still last moment arrival) refl)))
+moment_frozen : (t : Timing) (ticks arrival : ℕ)
+    → ticks_moment (frozen t) ticks arrival ≡ ticks_moment (still (frozen t)) ticks 0
+moment_frozen t ticks arrival = refl
 
-moment_frozen : (t : Timing) (time : Time) (arrival : ℕ)
-    → moment_at (frozen t) time arrival ≡ moment_at (still (frozen t)) time 0
-moment_frozen t Unknown arrival = refl
-moment_frozen t (Ticks ticks) arrival = refl
-moment_frozen t (Millis moment) arrival = refl
-
-times_frozen : (t : Timing) (time : Time) (arrival : ℕ)
-    → still (times_after (frozen t) time arrival) ≡ still (times_after (still (frozen t)) time 0)
-times_frozen t Unknown arrival = gone_still (frozen t) t.latest arrival
-times_frozen t (Ticks ticks) arrival =
+ticks_frozen : (t : Timing) (ticks arrival : ℕ)
+    → still (by_ticks (frozen t) ticks arrival) ≡ still (by_ticks (still (frozen t)) ticks 0)
+ticks_frozen t ticks arrival =
     still_if (is_clockless t ticks) (by_arrival (frozen t) arrival) (by_arrival (still (frozen t)) 0)
     (by_clock (frozen t) ticks arrival) (by_clock (still (frozen t)) ticks 0) (gone_still (frozen t) t.latest arrival)
     (clock_still t ticks arrival)
-times_frozen t (Millis moment) arrival = own_still (frozen t) moment arrival
 
 live_gone : (t : Timing) (moment arrival : ℕ) → (gone_on t moment arrival).is_live ≡ t.is_live
 live_gone t moment arrival =
@@ -100,47 +81,100 @@ live_clock t ticks arrival =
     (record t { clock = clock_after t ticks arrival }) t.is_live
     (live_gone heard (clock_moment t ticks arrival) arrival) refl
 
-live_own : (t : Timing) (moment arrival : ℕ) → (by_own t moment arrival).is_live ≡ t.is_live
-live_own t moment arrival =
-    let fit = record t { is_dated = true; votes = 0 } in
-    let first = record t { aside = moment; votes = 1 } in
-    let last = record t { aside = moment } in
-    let next = record t { aside = moment; votes = t.votes + 1 } in
-    let third = if t.votes == 2 then gone_on last moment arrival else next in
-    let jump = if not (row_agrees t moment) then first else third in
-    live_if (is_row_fit t moment) (gone_on fit moment arrival) (if nat_lt moment t.latest then t else jump) t.is_live
-    (live_gone fit moment arrival)
-    (live_if (nat_lt moment t.latest) t jump t.is_live refl
-    (live_if (not (row_agrees t moment)) first third t.is_live refl
-    (live_if (t.votes == 2) (gone_on last moment arrival) next t.is_live (live_gone last moment arrival) refl)))
-
-live_kept : (t : Timing) (time : Time) (arrival : ℕ) → (times_after t time arrival).is_live ≡ t.is_live
-live_kept t Unknown arrival = live_gone t (due t arrival) arrival
-live_kept t (Ticks ticks) arrival =
+live_ticks : (t : Timing) (ticks arrival : ℕ) → (by_ticks t ticks arrival).is_live ≡ t.is_live
+live_ticks t ticks arrival =
     live_if (is_clockless t ticks) (by_arrival t arrival) (by_clock t ticks arrival) t.is_live
     (live_gone t (due t arrival) arrival) (live_clock t ticks arrival)
-live_kept t (Millis moment) arrival = live_own t moment arrival
 
 is_frozen : (t : Timing) → t.is_live ≡ false → frozen t ≡ t
 is_frozen t is = λ i. record t { is_live = sym is i }
 
-told_still : (t : Timing) (time : Time) (arrival : ℕ) → t.is_live ≡ false
-    → is_told_at t time arrival ≡ is_told_at (still t) time 0
-told_still t time arrival is =
-    subst (λ (u : Timing). is_told_at u time arrival ≡ is_told_at (still u) time 0) (is_frozen t is)
-    (told_frozen t time arrival)
+told_still : (t : Timing) (ticks arrival : ℕ) → t.is_live ≡ false
+    → is_ticks_told t ticks arrival ≡ is_ticks_told (still t) ticks 0
+told_still t ticks arrival is =
+    subst (λ (u : Timing). is_ticks_told u ticks arrival ≡ is_ticks_told (still u) ticks 0) (is_frozen t is)
+    (told_frozen t ticks arrival)
 
-moment_still : (t : Timing) (time : Time) (arrival : ℕ) → t.is_live ≡ false
-    → moment_at t time arrival ≡ moment_at (still t) time 0
-moment_still t time arrival is =
-    subst (λ (u : Timing). moment_at u time arrival ≡ moment_at (still u) time 0) (is_frozen t is)
-    (moment_frozen t time arrival)
+moment_still : (t : Timing) (ticks arrival : ℕ) → t.is_live ≡ false
+    → ticks_moment t ticks arrival ≡ ticks_moment (still t) ticks 0
+moment_still t ticks arrival is =
+    subst (λ (u : Timing). ticks_moment u ticks arrival ≡ ticks_moment (still u) ticks 0) (is_frozen t is)
+    (moment_frozen t ticks arrival)
 
-times_still : (t : Timing) (time : Time) (arrival : ℕ) → t.is_live ≡ false
-    → still (times_after t time arrival) ≡ still (times_after (still t) time 0)
-times_still t time arrival is =
-    subst (λ (u : Timing). still (times_after u time arrival) ≡ still (times_after (still u) time 0)) (is_frozen t is)
-    (times_frozen t time arrival)
+ticks_still : (t : Timing) (ticks arrival : ℕ) → t.is_live ≡ false
+    → still (by_ticks t ticks arrival) ≡ still (by_ticks (still t) ticks 0)
+ticks_still t ticks arrival is =
+    subst (λ (u : Timing). still (by_ticks u ticks arrival) ≡ still (by_ticks (still u) ticks 0)) (is_frozen t is)
+    (ticks_frozen t ticks arrival)
+
+arrival_frozen : (t : Timing) (arrival : ℕ)
+    → still (by_arrival (frozen t) arrival) ≡ still (by_arrival (still (frozen t)) 0)
+arrival_frozen t arrival = gone_still (frozen t) t.latest arrival
+
+arrival_still : (t : Timing) (arrival : ℕ) → t.is_live ≡ false
+    → still (by_arrival t arrival) ≡ still (by_arrival (still t) 0)
+arrival_still t arrival is =
+    subst (λ (u : Timing). still (by_arrival u arrival) ≡ still (by_arrival (still u) 0)) (is_frozen t is)
+    (arrival_frozen t arrival)
+
+due_still : (t : Timing) (arrival : ℕ) → t.is_live ≡ false → due t arrival ≡ due (still t) 0
+due_still t arrival is =
+    subst (λ (u : Timing). due u arrival ≡ due (still u) 0) (is_frozen t is) refl
+
+-- ---- rows
+
+rows_still : (told : List Timed) (d : Dates) (a b : ℕ) (t u : Timing) → still t ≡ still u
+    → timed_all d a t told ≡ timed_all d b u told
+rows_still [] d a b t u same = refl
+rows_still (one ∷ more) d a b t u same =
+    let moment = own d one.moment in
+    ap₂ (λ (m : ℕ) (l : List Timed). record { moment = m; frame = one.frame } ∷ l)
+    (ap (λ (s : Timing). told_as s moment) same)
+    (rows_still more d a b (gone_on t moment a) (gone_on u moment b)
+    (gone_still t moment a ∙ ap (λ (s : Timing). still (gone_on s moment 0)) same ∙ sym (gone_still u moment b)))
+
+all_still : (told : List Timed) (d : Dates) (a b : ℕ) (t u : Timing) → still t ≡ still u
+    → still (gone_all d a t told) ≡ still (gone_all d b u told)
+all_still [] d a b t u same = same
+all_still (one ∷ more) d a b t u same =
+    let moment = own d one.moment in
+    all_still more d a b (gone_on t moment a) (gone_on u moment b)
+    (gone_still t moment a ∙ ap (λ (s : Timing). still (gone_on s moment 0)) same ∙ sym (gone_still u moment b))
+
+live_all : (told : List Timed) (d : Dates) (arrival : ℕ) (t : Timing)
+    → (gone_all d arrival t told).is_live ≡ t.is_live
+live_all [] d arrival t = refl
+live_all (one ∷ more) d arrival t =
+    live_all more d arrival (gone_on t (own d one.moment) arrival) ∙ live_gone t (own d one.moment) arrival
+
+abbrev dates_of : First → Run → ℕ → Dates
+dates_of first run ahead = record { first = first; run = run; ahead = ahead }
+
+judged_by : (first : First) (run : Run) (ahead : ℕ) (t : Timing) (one : Timed)
+    → judged t (dates_of first run ahead) one ≡ judged (still t) (dates_of first run ahead) one
+judged_by NoRow run ahead t one = refl
+judged_by (Waits first) Empty ahead t one = refl
+judged_by (Waits first) (One a) ahead t one = refl
+judged_by (Waits first) (Two a b) ahead t one = refl
+judged_by Believed Empty ahead t one = refl
+judged_by Believed (One a) ahead t one = refl
+judged_by Believed (Two a b) ahead t one = refl
+
+judged_still : (t : Timing) (d : Dates) (one : Timed) → judged t d one ≡ judged (still t) d one
+judged_still t d one = judged_by d.first d.run d.ahead t one
+
+ended_by : (first : First) (run : Run) (ahead : ℕ) (t : Timing)
+    → ended t (dates_of first run ahead) ≡ ended (still t) (dates_of first run ahead)
+ended_by NoRow run ahead t = refl
+ended_by (Waits first) Empty ahead t = refl
+ended_by (Waits first) (One a) ahead t = refl
+ended_by (Waits first) (Two a b) ahead t = refl
+ended_by Believed Empty ahead t = refl
+ended_by Believed (One a) ahead t = refl
+ended_by Believed (Two a b) ahead t = refl
+
+ended_still : (t : Timing) (d : Dates) → ended t d ≡ ended (still t) d
+ended_still t d = ended_by d.first d.run d.ahead t
 
 -- ---- one item
 
@@ -148,25 +182,58 @@ times_still t time arrival is =
 abbrev pub quiet : Hears → Hears
 quiet ear = record ear { times = still ear.times }
 
-told_by_quiet : (fate : Option Fate) (arrival : ℕ) (ear : Hears) (time : Time) (frame : RawFrame)
-    → ear.times.is_live ≡ false → told_by fate arrival ear time frame ≡ told_by fate 0 (quiet ear) time frame
-told_by_quiet (Some fate) arrival ear time frame is = refl
-told_by_quiet None arrival ear time frame is =
-    ap₂ (λ (b : Bool) (m : ℕ). if b then record { moment = m; frame = whole_of frame } ∷ [] else [])
-    (told_still ear.times time arrival is) (moment_still ear.times time arrival is)
+told_at_quiet : (time : Time) (arrival : ℕ) (ear : Hears) (frame : List ℕ) → ear.times.is_live ≡ false
+    → told_at time arrival ear frame ≡ told_at time 0 (quiet ear) frame
+told_at_quiet Unknown arrival ear frame is =
+    ap (λ m. record { moment = told_as ear.times m; frame = frame } ∷ []) (due_still ear.times arrival is)
+told_at_quiet (Ticks ticks) arrival ear frame is =
+    ap₂ (λ (b : Bool) (m : ℕ). if b then record { moment = told_as ear.times m; frame = frame } ∷ [] else [])
+    (told_still ear.times ticks arrival is) (moment_still ear.times ticks arrival is)
+told_at_quiet (Millis moment) arrival ear frame is =
+    let row = row_judged ear moment frame in
+    rows_still row.told row.after arrival 0 ear.times (still ear.times) refl
+    ∙ ap (told_judged 0 (quiet ear)) (judged_still ear.times ear.dates (record { moment = moment; frame = frame }))
 
-ear_by_quiet : (fate : Option Fate) (arrival : ℕ) (ear : Hears) (time : Time) → ear.times.is_live ≡ false
-    → quiet (ear_by fate arrival ear time) ≡ quiet (ear_by fate 0 (quiet ear) time)
-ear_by_quiet (Some fate) arrival ear time is = refl
-ear_by_quiet None arrival ear time is =
+ear_at_quiet : (time : Time) (arrival : ℕ) (ear : Hears) (frame : List ℕ) → ear.times.is_live ≡ false
+    → quiet (ear_at time arrival ear frame) ≡ quiet (ear_at time 0 (quiet ear) frame)
+ear_at_quiet Unknown arrival ear frame is =
+    ap (λ (t : Timing). record ear { times = t; counts = counted ear.counts Written })
+    (arrival_still ear.times arrival is)
+ear_at_quiet (Ticks ticks) arrival ear frame is =
     ap₂ (λ (t : Timing) (b : Bool).
     record ear { times = t; counts = counted ear.counts (if b then Written else Aside) })
-    (times_still ear.times time arrival is) (told_still ear.times time arrival is)
+    (ticks_still ear.times ticks arrival is) (told_still ear.times ticks arrival is)
+ear_at_quiet (Millis moment) arrival ear frame is =
+    let row = row_judged ear moment frame in
+    ap (λ (t : Timing). record ear {
+      times = t;
+      dates = row.after;
+      counts = counted_rows ear.counts (length row.told) row.aside;
+    }) (all_still row.told row.after arrival 0 ear.times (still ear.times) refl)
+    ∙ ap (λ (j : Judged). quiet (ear_judged 0 (quiet ear) j))
+    (judged_still ear.times ear.dates (record { moment = moment; frame = frame }))
 
-live_by : (fate : Option Fate) (arrival : ℕ) (ear : Hears) (time : Time)
-    → (ear_by fate arrival ear time).times.is_live ≡ ear.times.is_live
-live_by (Some fate) arrival ear time = refl
-live_by None arrival ear time = live_kept ear.times time arrival
+live_at : (time : Time) (arrival : ℕ) (ear : Hears) (frame : List ℕ)
+    → (ear_at time arrival ear frame).times.is_live ≡ ear.times.is_live
+live_at Unknown arrival ear frame = live_gone ear.times (due ear.times arrival) arrival
+live_at (Ticks ticks) arrival ear frame = live_ticks ear.times ticks arrival
+live_at (Millis moment) arrival ear frame =
+    let row = row_judged ear moment frame in live_all row.told row.after arrival ear.times
+
+told_by_quiet : (fate : Option Fate) (arrival : ℕ) (ear : Hears) (message : Message)
+    → ear.times.is_live ≡ false → told_by fate arrival ear message ≡ told_by fate 0 (quiet ear) message
+told_by_quiet (Some fate) arrival ear message is = refl
+told_by_quiet None arrival ear message is = told_at_quiet message.time arrival ear (whole_of message.frame) is
+
+ear_by_quiet : (fate : Option Fate) (arrival : ℕ) (ear : Hears) (message : Message) → ear.times.is_live ≡ false
+    → quiet (ear_by fate arrival ear message) ≡ quiet (ear_by fate 0 (quiet ear) message)
+ear_by_quiet (Some fate) arrival ear message is = refl
+ear_by_quiet None arrival ear message is = ear_at_quiet message.time arrival ear (whole_of message.frame) is
+
+live_by : (fate : Option Fate) (arrival : ℕ) (ear : Hears) (message : Message)
+    → (ear_by fate arrival ear message).times.is_live ≡ ear.times.is_live
+live_by (Some fate) arrival ear message = refl
+live_by None arrival ear message = live_at message.time arrival ear (whole_of message.frame)
 
 told_of_quiet : (arrival : ℕ) (ear : Hears) (item : Found) → ear.times.is_live ≡ false
     → told_of arrival ear item ≡ told_of 0 (quiet ear) item
@@ -174,7 +241,7 @@ told_of_quiet arrival ear Damage is = refl
 told_of_quiet arrival ear ReceiverId is = refl
 told_of_quiet arrival ear (Foreign stranger) is = refl
 told_of_quiet arrival ear (Whole message) is =
-    told_by_quiet (fate_of ear.all_formats message.time message.frame) arrival ear message.time message.frame is
+    told_by_quiet (fate_of ear.all_formats message.time message.frame) arrival ear message is
 
 ear_after_quiet : (arrival : ℕ) (ear : Hears) (item : Found) → ear.times.is_live ≡ false
     → quiet (ear_after arrival ear item) ≡ quiet (ear_after 0 (quiet ear) item)
@@ -182,7 +249,7 @@ ear_after_quiet arrival ear Damage is = refl
 ear_after_quiet arrival ear ReceiverId is = refl
 ear_after_quiet arrival ear (Foreign stranger) is = refl
 ear_after_quiet arrival ear (Whole message) is =
-    ear_by_quiet (fate_of ear.all_formats message.time message.frame) arrival ear message.time is
+    ear_by_quiet (fate_of ear.all_formats message.time message.frame) arrival ear message is
 
 live_after : (arrival : ℕ) (ear : Hears) (item : Found) → (ear_after arrival ear item).times.is_live
     ≡ ear.times.is_live
@@ -190,7 +257,7 @@ live_after arrival ear Damage = refl
 live_after arrival ear ReceiverId = refl
 live_after arrival ear (Foreign stranger) = refl
 live_after arrival ear (Whole message) =
-    live_by (fate_of ear.all_formats message.time message.frame) arrival ear message.time
+    live_by (fate_of ear.all_formats message.time message.frame) arrival ear message
 
 -- ---- two states that differ in arrivals alone
 
@@ -226,3 +293,27 @@ pub all_ears_alike : (a b : ℕ) (items : List Found) (k l : Hears) → AreAlike
 all_ears_alike a b [] k l alike = alike
 all_ears_alike a b (item ∷ more) k l alike =
     all_ears_alike a b more (ear_after a k item) (ear_after b l item) (ears_alike a b k l item alike)
+
+-- the end of rows
+pub ended_alike : (k l : Hears) → AreAlike k l
+    → (told_ended k ≡ told_ended l) × (quiet (ear_ended k) ≡ quiet (ear_ended l))
+ended_alike k l alike = (
+  ended_quiet k ∙ ap told_ended alike.same ∙ sym (ended_quiet l),
+  ear_quiet k ∙ ap (λ (m : Hears). quiet (ear_ended m)) alike.same ∙ sym (ear_quiet l),
+)
+  where
+    ended_quiet : (ear : Hears) → told_ended ear ≡ told_ended (quiet ear)
+    ended_quiet ear =
+        let last = ended ear.times ear.dates in
+        rows_still last.told last.after ear.times.arrival 0 ear.times (still ear.times) refl
+        ∙ ap (told_judged 0 (quiet ear)) (ended_still ear.times ear.dates)
+
+    ear_quiet : (ear : Hears) → quiet (ear_ended ear) ≡ quiet (ear_ended (quiet ear))
+    ear_quiet ear =
+        let last = ended ear.times ear.dates in
+        ap (λ (t : Timing). record ear {
+          times = t;
+          dates = last.after;
+          counts = counted_rows ear.counts (length last.told) last.aside;
+        }) (all_still last.told last.after ear.times.arrival 0 ear.times (still ear.times) refl)
+        ∙ ap (λ (j : Judged). quiet (ear_judged 0 (quiet ear) j)) (ended_still ear.times ear.dates)

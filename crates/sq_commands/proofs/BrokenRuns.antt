@@ -36,8 +36,11 @@ module _ {S K F : Type 0} (s : SourceGhosts S) (k : SinkGhosts K) (f : SinkGhost
   broken_feeds clock options from to old new before after (reply, (Err Read, (same, took), is), said) =
       (same, inl (took, (reported_as reply (broken_off Read) Broken (written_on f before after) is said).1))
   broken_feeds clock options from to old new before after (reply, (Err Write, (failed, same, took), is), said) =
-      (same, inr (failed, took, (reported_as reply (broken_off Write) Broken (written_on f before after) is said).1))
-  broken_feeds clock options from to old new before after (reply, (Err Memory, none, is), said) = absurd none
+      let report = (reported_as reply (broken_off Write) Broken (written_on f before after) is said).1 in
+      (same, inr (took, inl (failed, report)))
+  broken_feeds clock options from to old new before after (reply, (Err Memory, (some, same, took), is), said) =
+      let report = (reported_as reply (broken_off Memory) Broken (written_on f before after) is said).1 in
+      (same, inr (took, inr (some, report)))
 
   failed_inside : (text : Option Text) (old new : K) → FailedOn text (written_on k old new)
       → (bytes : Text) × FailedInside s k f old new bytes

@@ -1,22 +1,21 @@
 -- Calls of a feed, one after the other, and the lines that they put.
-use Rattle.std.proofs.Common.{◌≡◌, ◌+◌, ◌++◌, ◌∙◌, ℕ, zero, suc, List, [], ◌∷◌, Option, take, drop, refl, sym}
-use Rattle.std.proofs.Common.{ap, append_assoc, append-nil, subst, take-add}
+use Rattle.std.proofs.Common.{◌≡◌, ◌++◌, ◌∙◌, ℕ, zero, suc, List, [], ◌∷◌, Option, take, refl, sym}
+use Rattle.std.proofs.Common.{ap, ap₂, append_assoc, append-nil, subst}
 use Rattle.std.specs.Io.KnownBytes.{Appends}
 use Rattle.sq_devices.specs.Calls.{HasPut, HasSent}
 use Rattle.sq_devices.specs.Clocks.{Tells}
 use Rattle.sq_devices.specs.Device.{WroteFront}
 use Rattle.sq_devices.specs.declared.device.Sink.{Ghosts as SinkGhosts}
 use Rattle.sq_devices.proofs.Puts.{HasPut-trans}
-use Rattle.sq_feed.specs.Ears.{told_of_all}
-use Rattle.sq_feed.specs.Feeds.{AreFed, Fed, Feeding, HasFed, bytes_in, last_fed, told_at_end}
+use Rattle.sq_feed.specs.Ears.{ear_after_all, ear_ended, told_ended, told_of_all}
+use Rattle.sq_feed.specs.Feeds.{AreFed, Fed, Feeding, HasFed, HasSettled, HasTold, bytes_in, last_fed}
 use Rattle.sq_feed.specs.Follows.{Follows}
-use Rattle.sq_feed.specs.Readers.{awaited}
+use Rattle.sq_feed.specs.Readers.{Reads, awaited}
 use Rattle.sq_feed.specs.declared.message.Found.{Found}
 use Rattle.sq_feed.specs.declared.message.Timed.{Timed}
-use Rattle.sq_feed.proofs.Feeding.{fed_on, told_on}
-use Rattle.sq_feed.proofs.Following.{follows_nothing}
+use Rattle.sq_feed.proofs.Feeding.{told_on}
 use Rattle.sq_log.proofs.Running.{AppendsOrHides-after}
-use Rattle.sq_commands.specs.Feed.{HasFedText, arrivals_in, squitters_in}
+use Rattle.sq_commands.specs.Feed.{HasToldText, arrivals_in, squitters_in}
 
 -- ---- texts that are put one after the other
 
@@ -35,25 +34,20 @@ sent_after k a b c x y put (last, put', finished) = (last, HasPut-trans k a b la
 
 -- ---- one piece
 
--- an empty part of a piece
-pub fed_nothing : (arrival : ℕ) (old : Feeding) (Of : List Timed → Type 0) → Of [] → HasFedText arrival old [] old Of
-fed_nothing arrival old Of of =
-    ([], record { same = refl; follows = follows_nothing (awaited old.reader); heard = refl }, of)
+-- with these bytes a feed went on, and this holds of the squitters in them
+abbrev pub HasFedText : ℕ → Feeding → List ℕ → Feeding → (List Timed → Type 0) → Type 0
+HasFedText arrival old bytes new Of =
+    (found : List Found) × HasFed arrival old bytes found new × Of (told_of_all arrival old.ear found)
 
--- more of a piece: this holds of all squitters
-pub fed_more : (arrival : ℕ) (old mid new : Feeding) (piece : List ℕ) (at count : ℕ) (more : List Found)
-    → (Of On : List Timed → Type 0) → HasFedText arrival old (take at piece) mid Of
-    → HasFed arrival mid (take count (drop at piece)) more new
-    → ((came : List Timed) → Of came → On (came ++ told_of_all arrival mid.ear more))
-    → HasFedText arrival old (take (at + count) piece) new On
-fed_more arrival old mid new piece at count more Of On (found, fed, of) next on = (
-  found ++ more,
-  subst (λ bs. HasFed arrival old bs (found ++ more) new) (sym (take-add at count piece))
-      (fed_on arrival old mid new (take at piece) (take count (drop at piece)) found more fed next),
-  subst On (sym (told_on arrival old mid (take at piece) found more fed)) (on (told_of_all arrival old.ear found) of),
-)
+-- No squitter was ready, and none is: those that were given are those in the bytes.
+pub fed_text : (arrival : ℕ) (old new : Feeding) (bytes : List ℕ) (Of : List Timed → Type 0)
+    → HasToldText arrival old bytes new Of → old.ready ≡ [] → new.ready ≡ [] → HasFedText arrival old bytes new Of
+fed_text arrival old new bytes Of (told, has, of) none left =
+    let is = sym (append-nil told) ∙ ap (λ l. told ++ l) (sym left) ∙ has.told_are
+    ∙ ap (λ l. l ++ told_of_all arrival old.ear has.found) none in
+    (has.found, has.fed, subst Of is of)
 
-take_nothing : (n : ℕ) (bytes : List ℕ) → bytes ≡ [] → take n bytes ++ [] ≡ []
+pub take_nothing : (n : ℕ) (bytes : List ℕ) → bytes ≡ [] → take n bytes ++ [] ≡ []
 take_nothing zero bytes none = refl
 take_nothing (suc n) [] none = refl
 take_nothing (suc n) (byte ∷ bytes) none = absurd (cc none)
@@ -62,11 +56,36 @@ take_nothing (suc n) (byte ∷ bytes) none = absurd (cc none)
 pub told_of_front : (arrival : ℕ) (old new : Feeding) (count : ℕ) (found : List Found)
     → HasFed arrival old (take count []) found new
     → told_of_all arrival old.ear found ++ told_of_all arrival new.ear (awaited new.reader [])
-    ≡ told_at_end arrival old
+    ≡ told_of_all arrival old.ear (awaited old.reader [])
 unfolding Follows
 told_of_front arrival old new count found fed =
     sym (told_on arrival old new (take count []) found (awaited new.reader []) fed)
     ∙ ap (told_of_all arrival old.ear) (sym (fed.follows []) ∙ ap (awaited old.reader) (take_nothing count [] refl))
+
+front_nothing : {X : Type 0} (x y : List X) → x ++ y ≡ [] → x ≡ []
+front_nothing [] y none = refl
+front_nothing (a ∷ x) y none = absurd (cc none)
+
+-- without a byte, a reader that awaits nothing finds nothing
+nothing_found : (old new : Reads) (bytes : List ℕ) (found : List Found)
+    → Follows (awaited old) bytes found (awaited new) → bytes ++ [] ≡ [] → awaited old [] ≡ [] → found ≡ []
+unfolding Follows
+nothing_found old new bytes found follows empty none =
+    front_nothing found (awaited new []) (sym (follows []) ∙ ap (awaited old) empty ∙ none)
+
+-- the rows that waited at the end of a source, and nothing else
+pub told_settled : (arrival : ℕ) (one two three : Feeding) (bytes : List ℕ) (told : List Timed)
+    → HasTold arrival two bytes told three → bytes ++ [] ≡ [] → HasSettled one two → one.ready ≡ []
+    → awaited one.reader [] ≡ [] → (told ++ three.ready ≡ told_ended one.ear) × (three.ear ≡ ear_ended one.ear)
+told_settled arrival one two three bytes told has empty settled ready none =
+    let found = nothing_found two.reader three.reader bytes has.found has.fed.follows empty
+    (subst (λ (r : Reads). awaited r [] ≡ []) (sym settled.same_reader) none) in (
+      has.told_are
+          ∙ ap₂ (λ (l : List Timed) (m : List Found). l ++ told_of_all arrival two.ear m)
+          (settled.told_are ∙ ap (λ l. l ++ told_ended one.ear) ready) found
+          ∙ append-nil (told_ended one.ear),
+      has.fed.heard ∙ ap (ear_after_all arrival two.ear) found ∙ settled.heard,
+    )
 
 -- ---- one call more
 

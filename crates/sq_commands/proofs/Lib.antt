@@ -1,3 +1,4 @@
+pub mod AllSorted
 pub mod ArgumentLemmas
 pub mod BrokenRuns
 pub mod CheckLemmas

@@ -1,13 +1,13 @@
 -- A recorded input: what a clock told of it does not matter.
-use Rattle.std.proofs.Common.{◌≡◌, ◌∙◌, ◌++◌, ℕ, List, [], ◌∷◌, Result, Ok, Err, ap, ap₂, false, inl, inr, refl, subst, sym, true≢false}
+use Rattle.std.proofs.Common.{◌≡◌, ◌∙◌, ◌++◌, ℕ, Bool, List, [], ◌∷◌, Result, Ok, Err, ap, ap₂, false, inl, inr, refl, subst, sym, true≢false}
 use Rattle.std.specs.List.{All}
 use Rattle.std.proofs.lemmas.List.Elements.{All-cons, All-head, All-nil, All-tail}
 use Rattle.sq_devices.specs.Changes.{Sent, Taken, Written, Wrote}
 use Rattle.sq_devices.specs.Clocks.{Times, recorded}
 use Rattle.sq_devices.specs.Device.{WroteFront}
 use Rattle.sq_commands.specs.declared.feed.FeedEnd.{FeedEnd}
-use Rattle.sq_feed.specs.Ears.{Hears, ear_after_all, told_of_all}
-use Rattle.sq_feed.specs.Feeds.{AreFed, Fed, Feeding, bytes_in, last_fed, nothing_fed}
+use Rattle.sq_feed.specs.Ears.{Hears, ear_after_all, ear_ended, told_ended, told_of_all}
+use Rattle.sq_feed.specs.Feeds.{AreFed, Fed, Feeding, bytes_in, last_fed, nothing_fed, told_at_end}
 use Rattle.sq_feed.specs.Follows.{Follows}
 use Rattle.sq_feed.specs.Readers.{Reads, awaited}
 use Rattle.sq_feed.specs.declared.message.Timed.{Timed}
@@ -17,11 +17,13 @@ use Rattle.sq_log.specs.declared.run.RunFault.{RunFault}
 use Rattle.sq_log.specs.declared.run.RunFault.TheVariants.{Read, Write, Memory}
 use Rattle.sq_commands.specs.Requests.{Asked, Reply, Check, Track, Feed}
 use Rattle.sq_commands.specs.declared.status.Status.{Status}
-use Rattle.sq_commands.specs.Feed.{EndsBy, FedIn, FedWhole, IsFed, all_lines, arrivals_in}
-use Rattle.sq_commands.specs.Feed.{end_by, end_of, lines_given, lines_in, lines_whole, manner_of, squitters_in, start_of}
+use Rattle.sq_commands.specs.Feed.{EndsBy, FedIn, FedWhole, HasFedFront, IsFed, all_lines, arrivals_in}
+use Rattle.sq_feed.specs.Units.{Watched, nothing_watched, watched_all}
+use Rattle.sq_commands.specs.Feed.{end_after, end_by, watched_in}
+use Rattle.sq_commands.specs.Feed.{lines_given, lines_in, lines_whole, manner_of, squitters_in, start_of}
 use Rattle.sq_commands.specs.Outputs.{Effects}
 use Rattle.sq_commands.specs.Runs.{IsRun, IsTimedRun}
-use Rattle.sq_commands.proofs.Arrivals.{AreAlike, all_ears_alike, all_told_alike, quiet}
+use Rattle.sq_commands.proofs.Arrivals.{AreAlike, all_ears_alike, all_told_alike, ended_alike, quiet}
 
 abbrev IsZero : ℕ → Type 0
 IsZero moment = moment ≡ 0
@@ -53,7 +55,7 @@ untimed [] before other fed near = record {
 }
 untimed (one ∷ more) before other (fed, feds) near =
     let reader : Reads = one.after.reader in
-    let after : Feeding = record { reader = reader; ear = ear_after_all 0 other.ear one.found } in
+    let after : Feeding = record { reader = reader; ear = ear_after_all 0 other.ear one.found; ready = [] } in
     let next : Fed = record { arrival = 0; bytes = one.bytes; found = one.found; after = after } in
     let heard : AreAlike (ear_after_all one.arrival before.ear one.found) (ear_after_all 0 other.ear one.found) =
     all_ears_alike one.arrival 0 one.found before.ear other.ear near.ear in
@@ -110,30 +112,40 @@ module _ (clock : Times) (recorded_is : clock.is_live ≡ false) (options : Feed
 
   fed_whole : (bytes : List ℕ) (Of : List ℕ → FeedEnd → Type 0)
       → FedWhole options clock bytes (λ calls arrival. Of (all_lines options from calls arrival)
-      (end_of arrival (last_fed from calls)))
+      (end_after clock.is_live from calls arrival))
       → FedWhole options recorded bytes (λ calls arrival. Of (all_lines options to calls arrival)
-      (end_of arrival (last_fed to calls)))
+      (end_after false to calls arrival))
   fed_whole bytes Of (calls, arrival, fed, whole, told, of) =
       let u = untimed calls from to fed near_start in
       let end = last_fed from calls in
       let end' = last_fed to u.others in
       let left = λ (m : Reads). awaited m [] in
-      let last : told_of_all arrival end.ear (left end.reader) ≡ told_of_all 0 end'.ear (left end'.reader) =
-      ap (λ (m : Reads). told_of_all arrival end.ear (left m)) u.near.reader
-      ∙ all_told_alike arrival 0 (left end'.reader) end.ear end'.ear u.near.ear in
       let ears = all_ears_alike arrival 0 (left end'.reader) end.ear end'.ear u.near.ear in
+      let ends = ended_alike (ear_after_all arrival end.ear (left end'.reader))
+      (ear_after_all 0 end'.ear (left end'.reader)) ears in
+      let last : told_at_end arrival end ≡ told_at_end 0 end' =
+      ap (λ (m : Reads). told_of_all arrival end.ear (left m) ++ told_ended (ear_after_all arrival end.ear (left m)))
+      u.near.reader
+      ∙ ap₂ (λ (l m : List Timed). l ++ m) (all_told_alike arrival 0 (left end'.reader) end.ear end'.ear u.near.ear)
+      ends.0 in
       let lines : all_lines options from calls arrival ≡ all_lines options to u.others 0 =
       ap₂ (λ (l m : List Timed). lines_whole options.reorder (l ++ m)) u.squitters last in
-      let counts : end_of arrival end ≡ end_of 0 end' =
-      ap (λ (m : Reads). end_by (ear_after_all arrival end.ear (left m))) u.near.reader
-      ∙ ap end_by ears.same in (
+      let seen : watched_all (watched_in from calls) (told_at_end arrival end)
+      ≡ watched_all (watched_in to u.others) (told_at_end 0 end') =
+      ap₂ (λ (l m : List Timed). watched_all (watched_all nothing_watched l) m) u.squitters last in
+      let counts : end_after clock.is_live from calls arrival ≡ end_after false to u.others 0 =
+      ap₂ (λ (b : Bool) (w : Watched). end_by b w (ear_ended (ear_after_all arrival end.ear (left end.reader))))
+      recorded_is seen
+      ∙ ap (λ (m : Reads). end_by false (watched_all (watched_in to u.others) (told_at_end 0 end'))
+      (ear_ended (ear_after_all arrival end.ear (left m)))) u.near.reader
+      ∙ ap (end_by false (watched_all (watched_in to u.others) (told_at_end 0 end'))) ends.1 in (
         u.others,
         0,
         u.fed,
         u.bytes ∙ whole,
         zero_and (arrivals_in u.others) u.zero,
         subst (Of (all_lines options to u.others 0)) counts
-            (subst (λ l. Of l (end_of arrival end)) lines of),
+            (subst (λ l. Of l (end_after clock.is_live from calls arrival)) lines of),
       )
 
   -- the input is at its end, since it is not live
@@ -141,6 +153,17 @@ module _ (clock : Times) (recorded_is : clock.is_live ≡ false) (options : Feed
       → IsAtEnd input.after
   at_end input calls arrival (inl end) = end
   at_end input calls arrival (inr (live, _)) = absurd (true≢false (sym live ∙ recorded_is))
+
+  front_recorded : (input : Taken) (output : Written) (bytes : List ℕ)
+      → HasFedFront options clock input output bytes → HasFedFront options recorded input output bytes
+  front_recorded input output bytes (inl (front, first, of)) =
+      inl (front, first, fed_in front (WroteFront output.before output.after) of)
+  front_recorded input output bytes (inr (calls, arrival, fed, whole, told, (ends, of))) =
+      let end = at_end input calls arrival ends in
+      let (others, arrival', fed', whole', told', of') =
+      fed_whole bytes (λ lines counts. WroteFront output.before output.after lines)
+      (calls, arrival, fed, whole, told, of) in
+      inr (others, arrival', fed', whole', told', (inl end, of'))
 
   fed_recorded : (answer : Result FeedEnd RunFault) (input : Taken) (output : Written)
       → IsFed options clock answer input output → IsFed options recorded answer input output
@@ -157,28 +180,10 @@ module _ (clock : Times) (recorded_is : clock.is_live ≡ false) (options : Feed
   fed_recorded (Ok tally) input output (once, inr (live, known, of)) = absurd (true≢false (sym live ∙ recorded_is))
   fed_recorded (Err Read) input output (same, (failed, (bytes, consumed, few, of))) =
       (same, (failed, (bytes, consumed, few, fed_in bytes (Wrote output) of)))
-  fed_recorded (Err Write) input output (failed, same, (bytes, consumed, few, inl (front, first, of))) = (
-    failed,
-    same,
-    (
-      bytes,
-      consumed,
-      few,
-      inl (
-        front,
-        first,
-        fed_in front (WroteFront output.before output.after) of,
-      ),
-    ),
-  )
-  fed_recorded (Err Write) input output
-      (failed, same, (bytes, consumed, few, inr (calls, arrival, fed, whole, told, (ends, of)))) =
-      let end = at_end input calls arrival ends in
-      let (others, arrival', fed', whole', told', of') =
-      fed_whole bytes (λ lines counts. WroteFront output.before output.after lines)
-      (calls, arrival, fed, whole, told, of) in
-      (failed, same, (bytes, consumed, few, inr (others, arrival', fed', whole', told', (inl end, of'))))
-  fed_recorded (Err Memory) input output none = absurd none
+  fed_recorded (Err Write) input output (failed, same, (bytes, consumed, few, of)) =
+      (failed, same, (bytes, consumed, few, front_recorded input output bytes of))
+  fed_recorded (Err Memory) input output (some, same, (bytes, consumed, few, of)) =
+      (some, same, (bytes, consumed, few, front_recorded input output bytes of))
 
 -- a run on an input that is not live is one on a recorded input
 pub run_recorded : (clock : Times) → clock.is_live ≡ false → (asked : Asked) (status : Status) (e : Effects)

@@ -3,7 +3,8 @@ use Rattle.std.proofs.Common.{◌≡◌, ◌≢◌, ◌+◌, ◌<◌, ◌++◌, 
 use Rattle.std.specs.Prelude.{◌==◌, codes, decimal, sum, if◌then◌else◌}
 use Rattle.std.proofs.lemmas.Bool.{eqb-true}
 use Rattle.std.proofs.lemmas.List.{drop_more}
-use Rattle.sq_commands.specs.Summary.{comma_of, followed, format_text, format_texts, joined, other_formats, part}
+use Rattle.sq_feed.specs.Counts.{Tally}
+use Rattle.sq_commands.specs.Summary.{comma_of, counts_text, followed, format_text, format_texts, joined, other_formats, part}
 use Rattle.sq_commands.specs.Summary.{rest_of}
 
 -- the branch of a test that fails
@@ -119,6 +120,19 @@ others_none old counts others is none =
     ++ joined (format_texts 0 counts) ++ codes ")") (sym is ∙ none)) ∙ append-nil old)
 
 -- eight texts, one after the other
-pub eight_texts : (a b c d e f g h : List ℕ)
-    → ((((((a ++ b) ++ c) ++ d) ++ e) ++ f) ++ g) ++ h ≡ a ++ b ++ c ++ d ++ e ++ f ++ g ++ h
-eight_texts a b c d e f g h = simp append_assoc refl
+pub nine_texts : (a b c d e f g h i : List ℕ)
+    → (((((((a ++ b) ++ c) ++ d) ++ e) ++ f) ++ g) ++ h) ++ i ≡ a ++ (b ++ c ++ d ++ e ++ f ++ g ++ h ++ i)
+nine_texts a b c d e f g h i = simp append_assoc refl
+
+-- the counts behind a text
+pub counts_pushed : (front : List ℕ) (tally : Tally)
+    → (((((((front ++ decimal tally.written) ++ codes " written") ++ other_formats tally.formats)
+    ++ part tally.mode_ac (codes " of Mode A/C")) ++ part tally.multilaterated (codes " multilaterated"))
+    ++ part tally.receiver_ids (codes " receiver ids")) ++ part tally.aside (codes " set aside"))
+    ++ part tally.damaged (codes " damaged") ≡ front ++ counts_text tally
+unfolding counts_text
+counts_pushed front tally =
+    nine_texts front (decimal tally.written) (codes " written") (other_formats tally.formats)
+    (part tally.mode_ac (codes " of Mode A/C")) (part tally.multilaterated (codes " multilaterated"))
+    (part tally.receiver_ids (codes " receiver ids")) (part tally.aside (codes " set aside"))
+    (part tally.damaged (codes " damaged"))

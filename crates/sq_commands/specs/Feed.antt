@@ -1,6 +1,6 @@
 -- The command `feed`.
 use Rattle.std.specs.Prelude.{◌≡◌, ◌≢◌, ◌++◌, ◌⊎◌, ℕ, List, [], ◌∷◌, Option, None, Some, Result, Ok, Err, MatchResult, codes}
-use Rattle.std.specs.Prelude.{Bool, false, if◌then◌else◌, map, true}
+use Rattle.std.specs.Prelude.{◌==◌, ⊤, Bool, false, if◌then◌else◌, map, not, true}
 use Rattle.std.specs.Io.KnownBytes.{IsAtEnd}
 use Rattle.sq_devices.specs.Changes.{FinishedOnce, Sent, Taken, TookAll, TookPart, TookSome, Unfinished}
 use Rattle.sq_devices.specs.Changes.{Written, Wrote}
@@ -9,12 +9,13 @@ use Rattle.sq_devices.specs.Calls.{HasPut}
 use Rattle.sq_devices.specs.declared.device.Sink.{Ghosts as SinkGhosts}
 use Rattle.sq_devices.specs.Device.{IsPrefixOf, WroteFront}
 use Rattle.sq_feed.specs.Counts.{Tally}
-use Rattle.sq_feed.specs.Ears.{Hears, ear_after_all, told_of_all}
-use Rattle.sq_feed.specs.Feeds.{AreFed, Fed, Feeding, HasFed, bytes_in, last_fed, lines_of, nothing_fed, told_at_end}
-use Rattle.sq_feed.specs.Orders.{Sorting, given_all, is_due, nothing_sorted, sorted_all}
-use Rattle.sq_feed.specs.declared.message.Found.{Found}
+use Rattle.sq_feed.specs.Ears.{Hears, told_of_all}
+use Rattle.sq_feed.specs.Feeds.{AreFed, Fed, Feeding, HasTold, bytes_in, ear_at_end, last_fed, lines_of, nothing_fed}
+use Rattle.sq_feed.specs.Feeds.{told_at_end}
+use Rattle.sq_feed.specs.Orders.{Sorting, given_all, is_due, nothing_sorted, sorted, sorted_all}
 use Rattle.sq_feed.specs.declared.message.Timed.{Timed}
-use Rattle.sq_feed.specs.Readers.{awaited}
+use Rattle.sq_feed.specs.Dates.{is_dated}
+use Rattle.sq_feed.specs.Units.{Watched, nothing_watched, unit_of, watched_all}
 use Rattle.sq_feed.specs.declared.machine.Format.{Format}
 use Rattle.sq_feed.specs.declared.machine.Format.TheVariants.{Beast, Avr, Csv, Log}
 use Rattle.sq_feed.specs.declared.manner.Manner.{Manner}
@@ -68,14 +69,32 @@ squitters_in before (one ∷ more) = told_of_all one.arrival before.ear one.foun
 abbrev pub all_squitters : Feeding → List Fed → (arrival : ℕ) → List Timed
 all_squitters before calls arrival = squitters_in before calls ++ told_at_end arrival (last_fed before calls)
 
+-- the order of a feed: with a `reorder` of 0 there is none, and squitters are given as they come
+abbrev pub order_with : (reorder : ℕ) → Option Sorting
+order_with reorder = if reorder == 0 then None else Some (nothing_sorted reorder)
+
+-- the squitters that are given of those that come, the order after them, and the squitters that it holds
+abbrev pub given_by : Option Sorting → List Timed → List Timed
+given_by None came = came
+given_by (Some order) came = given_all order came
+
+abbrev pub order_after : Option Sorting → List Timed → Option Sorting
+order_after None came = None
+order_after (Some order) came = Some (sorted_all order came)
+
+abbrev pub waiting_in : Option Sorting → List Timed
+waiting_in None = []
+waiting_in (Some order) = order.held
+
 -- The lines of squitters, in the order of their timestamps. A squitter is held until one that is `reorder` milliseconds
--- later has come, or until 4096 are held: with 0, each line is written at once.
+-- later has come.
 abbrev pub lines_given : (reorder : ℕ) → List Timed → List ℕ
-lines_given reorder came = lines_of (given_all 4096 (nothing_sorted reorder) came)
+lines_given reorder came = lines_of (given_by (order_with reorder) came)
 
 -- all of them at the end
 abbrev pub lines_whole : (reorder : ℕ) → List Timed → List ℕ
-lines_whole reorder came = lines_given reorder came ++ lines_of (sorted_all 4096 (nothing_sorted reorder) came).held
+lines_whole reorder came =
+    lines_given reorder came ++ lines_of (waiting_in (order_after (order_with reorder) came))
 
 -- the lines that are written with the calls of a feed, and those of the whole source
 abbrev pub lines_in : FeedOptions → Feeding → List Fed → List ℕ
@@ -84,47 +103,64 @@ lines_in options before calls = lines_given options.reorder (squitters_in before
 abbrev pub all_lines : FeedOptions → Feeding → List Fed → (arrival : ℕ) → List ℕ
 all_lines options before calls arrival = lines_whole options.reorder (all_squitters before calls arrival)
 
--- the end of a source: the counts of its items, with the last ones, and what it is if it has no known format
-abbrev pub end_by : Hears → FeedEnd
-end_by ear = record { counts = ear.counts; stranger = ear.stranger }
+-- the end of a source: the counts of its items, with the last ones; what it is if it has no known format; whether rows
+-- had times of their own; and what the timestamps of its squitters seem to be, if they are not milliseconds
+abbrev pub end_by : (is_live : Bool) → Watched → Hears → FeedEnd
+end_by is_live seen ear = record {
+  counts = ear.counts;
+  stranger = ear.stranger;
+  is_dated = is_dated ear.dates;
+  unit = unit_of (not (is_dated ear.dates)) is_live seen;
+}
 
-abbrev pub end_of : ℕ → Feeding → FeedEnd
-end_of arrival old = end_by (ear_after_all arrival old.ear (awaited old.reader []))
+abbrev pub end_of : (is_live : Bool) → ℕ → Watched → Feeding → FeedEnd
+end_of is_live arrival seen old =
+    end_by is_live (watched_all seen (told_at_end arrival old)) (ear_at_end arrival old)
+
+-- the squitters in calls, as far as they are watched
+abbrev pub watched_in : Feeding → List Fed → Watched
+watched_in before calls = watched_all nothing_watched (squitters_in before calls)
+
+-- the end of a source that these calls read
+abbrev pub end_after : (is_live : Bool) → Feeding → List Fed → (arrival : ℕ) → FeedEnd
+end_after is_live before calls arrival = end_of is_live arrival (watched_in before calls) (last_fed before calls)
 
 -- ---- one piece
 
--- An order is in this state, and no squitter is due. Without an order, none is held, and none waits for a later one.
-abbrev pub Sorts : Option Sorting → Sorting → Type 0
-Sorts (Some order) state = (state ≡ order) × (is_due 4096 order.reorder order.latest order.held ≡ false)
-Sorts None state = (state.reorder ≡ 0) × (state.held ≡ [])
+-- no squitter of an order is due
+abbrev pub IsSettled : Option Sorting → Type 0
+IsSettled None = ⊤
+IsSettled (Some order) = is_due order.reorder order.latest order.held ≡ false
 
--- These squitters came: the order goes on from each state that it is in, and this holds of the lines that are given.
+-- These squitters came, none is due any more, and this holds of the lines that are given.
 abbrev pub HasPutSorted : (old new : Option Sorting) → List Timed → (List ℕ → Type 0) → Type 0
-HasPutSorted old new came Of = (state : Sorting) → Sorts old state
-    → Sorts new (sorted_all 4096 state came) × Of (lines_of (given_all 4096 state came))
+HasPutSorted old new came Of = (new ≡ order_after old came) × IsSettled new × Of (lines_of (given_by old came))
 
 -- These squitters came, in part, and this holds of the lines that are given of all.
 abbrev pub HasPutPart : Option Sorting → List Timed → (List ℕ → Type 0) → Type 0
-HasPutPart old came Of = (state : Sorting) → Sorts old state → Of (lines_of (given_all 4096 state came))
-
--- the squitters that an order holds
-abbrev pub waiting_in : Option Sorting → List Timed
-waiting_in None = []
-waiting_in (Some order) = order.held
+HasPutPart old came Of = Of (lines_of (given_by old came))
 
 -- These squitters came last, and this holds of their lines and of those that were held.
 abbrev pub HasPutLast : Option Sorting → List Timed → (List ℕ → Type 0) → Type 0
-HasPutLast old came Of = (state : Sorting) → Sorts old state
-    → Of (lines_of (given_all 4096 state came) ++ lines_of (sorted_all 4096 state came).held)
+HasPutLast old came Of = Of (lines_of (given_by old came) ++ lines_of (waiting_in (order_after old came)))
+
+-- Why not all lines were put: the sink has failed, or an order had no memory for a squitter.
+abbrev pub HasStopped : Option Sorting → (has_failed : Bool) → RunFault → Type 0
+HasStopped order has_failed Read = ⊥
+HasStopped order has_failed Write = has_failed ≡ true
+HasStopped order has_failed Memory = order ≢ None
+
+-- a prefix of this text was written, and the sink was not finished
+abbrev pub WrotePart : Written → List ℕ → Type 0
+WrotePart output text = WroteFront output.before output.after text × Unfinished output
 
 -- Lines were appended to those in a buffer. The sink was given the first of all these, and the buffer has the others.
 abbrev pub HasLined : {K : Type 0} → SinkGhosts K → (old new : K) → (before after lines : List ℕ) → Type 0
 HasLined k old new before after lines = (text : List ℕ) × HasPut k old new text × (text ++ after ≡ before ++ lines)
 
--- with these bytes a feed went on, and this holds of their squitters
-abbrev pub HasFedText : ℕ → Feeding → List ℕ → Feeding → (List Timed → Type 0) → Type 0
-HasFedText arrival old bytes new Of =
-    (found : List Found) × HasFed arrival old bytes found new × Of (told_of_all arrival old.ear found)
+-- with these bytes a feed went on, and this holds of the squitters that it gave
+abbrev pub HasToldText : ℕ → Feeding → List ℕ → Feeding → (List Timed → Type 0) → Type 0
+HasToldText arrival old bytes new Of = (told : List Timed) × HasTold arrival old bytes told new × Of told
 
 -- ---- a run over an input
 
@@ -143,7 +179,7 @@ FedWhole options clock bytes Of = (calls : List Fed) × (arrival : ℕ) × AreFe
 abbrev pub HasFedAll : FeedOptions → Times → FeedEnd → Written → List ℕ → Type 0
 HasFedAll options clock end output bytes = FedWhole options clock bytes (λ calls arrival.
     Sent output (all_lines options (start_of options clock) calls arrival)
-    × (end ≡ end_of arrival (last_fed (start_of options clock) calls)))
+    × (end ≡ end_after clock.is_live (start_of options clock) calls arrival))
 
 -- the lines of the items in these bytes were written
 abbrev pub HasFedSome : FeedOptions → Times → Written → List ℕ → Type 0
@@ -153,7 +189,7 @@ HasFedSome options clock output bytes =
 -- a run ends at the end of its input, or, if that is live, once it is known to hold no frames
 abbrev pub EndsBy : FeedOptions → Times → Taken → List Fed → ℕ → Type 0
 EndsBy options clock input calls arrival = IsAtEnd input.after ⊎ ((clock.is_live ≡ true)
-    × ((end_of arrival (last_fed (start_of options clock) calls)).stranger ≢ None))
+    × ((end_after clock.is_live (start_of options clock) calls arrival).stranger ≢ None))
 
 -- a prefix of the lines was written: of those in some of the first bytes, or, where the run ends, of all
 abbrev pub HasFedFront : FeedOptions → Times → Taken → Written → List ℕ → Type 0
@@ -170,14 +206,23 @@ abbrev pub IsFed : FeedOptions → Times → Result FeedEnd RunFault → Taken �
 IsFed options clock (Ok end) input output = FinishedOnce output
     × (TookAll input (HasFedAll options clock end output)
     ⊎ ((clock.is_live ≡ true) × (end.stranger ≢ None) × TookSome input (HasFedAll options clock end output)))
--- the source failed: the lines of all items that were read whole were written
+-- The source failed. The lines of all items that were read whole were written, but for the squitters that wait.
 IsFed options clock (Err Read) input output =
     Unfinished output × TookPart input (HasFedSome options clock output)
 -- the sink failed, within the lines of the items that were read
 IsFed options clock (Err Write) input output =
     (output.failed ≡ true) × Unfinished output × TookSome input (HasFedFront options clock input output)
--- `feed` wants no memory
-IsFed options clock (Err Memory) input output = ⊥
+-- There was no memory for a squitter that waits: only with a `reorder`. A prefix of the lines was written.
+IsFed options clock (Err Memory) input output =
+    (options.reorder ≢ 0) × Unfinished output × TookSome input (HasFedFront options clock input output)
+
+-- ---- a law
+
+-- The lines of a whole source are those of all its squitters, sorted: none is late.
+abbrev pub WritesAllSorted : Type 0
+WritesAllSorted = (options : FeedOptions) (is_live : Bool) (calls : List Fed) (arrival : ℕ)
+    → let start = nothing_fed options.format (manner_of options is_live) in AreFed start calls
+    → all_lines options start calls arrival ≡ lines_of (sorted (all_squitters start calls arrival))
 
 -- ---- the command
 
@@ -199,9 +244,9 @@ status_at_end counts None = if are_all_damaged counts then Refused else Good
 status_at_end counts (Some stranger) = Refused
 
 -- the report at the end: the summary, or the kind of source without frames
-abbrev pub text_at_end : Tally → Option Stranger → List ℕ
-text_at_end counts None = summary_text counts
-text_at_end counts (Some stranger) = stranger_text stranger
+abbrev pub text_at_end : FeedEnd → Option Stranger → List ℕ
+text_at_end end None = summary_text end
+text_at_end end (Some stranger) = stranger_text stranger
 
 -- milliseconds, as 1 to 20 digits of a number below 2^64; the usual ones if none are given
 abbrev pub IsMillis : (usual : ℕ) → Option (List ℕ) → ℕ → Type 0
@@ -232,7 +277,7 @@ IsFeedReading words reading = MatchResult reading (IsFeedOptions words) (IsFeedF
 
 -- the reply of a run, by its result: the end of the source is reported, or the reason why the run stopped early
 abbrev pub feed_reply : Result FeedEnd RunFault → ReplyParts
-feed_reply (Ok end) = reporting (status_at_end end.counts end.stranger) (text_at_end end.counts end.stranger)
+feed_reply (Ok end) = reporting (status_at_end end.counts end.stranger) (text_at_end end end.stranger)
 feed_reply (Err fault) = broken_off fault
 
 -- a run over the input

@@ -27,7 +27,7 @@ bytes_in text = option_map (λ (t : TextBuffer). t.bytes) text
 -- the text of a report
 abbrev pub report_bytes : ReportLine → List ℕ
 report_bytes (Line text) = text.bytes
-report_bytes (Summary counts) = summary_text counts ++ codes "\n"
+report_bytes (Summary end) = summary_text end ++ codes "\n"
 
 -- the text of a report, if there is one
 abbrev pub report_in : Option ReportLine → Option (List ℕ)

@@ -1,9 +1,12 @@
 -- The summary of a feed: how many items were written, and what became of the others.
-use Rattle.std.specs.Prelude.{◌==◌, ◌+◌, ◌++◌, ℕ, Bool, List, [], ◌∷◌, codes, decimal, false, sum, true, if◌then◌else◌, ◌&&◌, not}
+use Rattle.std.specs.Prelude.{◌==◌, ◌+◌, ◌++◌, ◌/◌, nat_lt, Option, Some, None, ℕ, Bool, List, [], ◌∷◌, codes, decimal, false, sum, true, if◌then◌else◌, ◌&&◌, not}
 use Rattle.std.specs.List.{flat_map}
-use Rattle.sq_feed.specs.Counts.{Tally}
+use Rattle.sq_feed.specs.Counts.{Tally, nothing_counted}
 use Rattle.sq_feed.specs.declared.message.Stranger.{Stranger}
 use Rattle.sq_feed.specs.declared.message.Stranger.TheVariants as strangers
+use Rattle.sq_feed.specs.declared.units.Unit.{Unit}
+use Rattle.sq_feed.specs.declared.units.Unit.TheVariants as units
+use Rattle.sq_commands.specs.declared.feed.FeedEnd.{FeedEnd}
 
 -- these texts, each behind a comma
 unfoldable pub followed : List (List ℕ) → List ℕ
@@ -54,14 +57,46 @@ counts_text tally = decimal tally.written ++ codes " written" ++ other_formats t
 abbrev pub are_all_damaged : Tally → Bool
 are_all_damaged tally = not (tally.found == 0) && (tally.damaged == tally.found)
 
--- what to do if all items are damaged
-abbrev pub advice : Tally → List ℕ
-advice tally =
-    if are_all_damaged tally then codes ": try without --format; the times of a table are seconds" else []
+-- Many times of a source with a receiver's clock were set aside: more than 4, and one for 20 that were written.
+abbrev pub has_several_clocks : FeedEnd → Bool
+has_several_clocks end =
+    not end.is_dated && nat_lt 4 end.counts.aside && nat_lt (end.counts.written / 20) end.counts.aside
 
--- the summary: the counts, and what to do
-abbrev pub summary_text : Tally → List ℕ
-summary_text tally = counts_text tally ++ advice tally
+-- what to do if all items are damaged, or if many times were set aside
+abbrev pub advice : FeedEnd → List ℕ
+advice end =
+    if are_all_damaged end.counts then codes ": try without --format; the times of a table are seconds"
+    else (if has_several_clocks end then codes "; try --arrival: the source seems to have several clocks" else [])
+
+-- what the timestamps seem to be, and what they have to be
+abbrev pub unit_text : Unit → List ℕ
+unit_text units.Seconds = codes "the timestamps of this log seem to be seconds; they have to be milliseconds"
+unit_text units.Microseconds =
+    codes "the timestamps seem to be microseconds; a log has milliseconds, and a table has seconds"
+unit_text units.Nanoseconds =
+    codes "the timestamps seem to be nanoseconds; a log has milliseconds, and a table has seconds"
+unit_text units.AllZero =
+    codes "all frames of this file have the timestamp 0, as without times: old ones pair with new"
+unit_text units.Gps =
+    codes "the clock of this source seems to be GPS time (Radarcape): set it to 12 MHz, or read its port with --arrival"
+
+-- the line on the unit, if it is not milliseconds
+abbrev pub unit_line : Option Unit → List ℕ
+unit_line None = []
+unit_line (Some unit) = unit_text unit ++ codes "\n"
+
+-- the summary: a line on the unit, the counts, and what to do
+abbrev pub summary_text : FeedEnd → List ℕ
+summary_text end = unit_line end.unit ++ counts_text end.counts ++ advice end
+
+-- the end of a source of which so many items were written, and so many set aside
+abbrev pub summed : (written aside : ℕ) → (is_dated : Bool) → FeedEnd
+summed written aside is_dated = record {
+  counts = record nothing_counted { found = written + aside; written = written; aside = aside };
+  stranger = None;
+  is_dated = is_dated;
+  unit = None;
+}
 
 -- what a source without frames is, and what to do
 abbrev pub stranger_text : Stranger → List ℕ
@@ -70,4 +105,5 @@ stranger_text strangers.Tar = codes "the input is a tar archive: try tar -xOf FI
 stranger_text strangers.Packed = codes "the input is compressed: try gzip -dc FILE | squitter feed"
 stranger_text strangers.Utf16 = codes "the input is UTF-16: try iconv -f UTF-16 -t UTF-8 FILE | squitter feed"
 stranger_text strangers.Json = codes "the input is lines of JSON, which have no frames"
-stranger_text strangers.NoFrame = codes "no frame is in the first 16384 bytes: try --format=beast, avr, csv or log"
+stranger_text strangers.NoFrame =
+    codes "no frame is in the first 16384 bytes: try --format=beast, avr, csv or log; a table has the columns time (seconds), icao24 and rawmsg"

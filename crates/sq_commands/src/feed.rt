@@ -13,10 +13,11 @@ use crate::replies::{Reply, ReplyText, ReportLine, end_reporting, refuse_argumen
 use crate::requests::FeedWords;
 use crate::status::Status;
 use crate::summary::{are_all_damaged, stranger_text};
-use sq_devices::{Clock, Failed, Sink, Source};
-use sq_feed::{Counts, Feed, Format, Manner, Stranger};
+use sq_devices::{Clock, Sink, Source};
+use sq_feed::{Counts, Feed, Format, Manner, Stranger, Unit, Units};
 use sq_log::RunFault;
 use sq_text::read_decimal;
+use std::alloc::{Allocator, Global};
 
 // A gap of more milliseconds is a jump of the receiver's clock, if no other is given: 10 minutes.
 const LEAP: u64 = 600_000;
@@ -39,21 +40,26 @@ pub struct FeedOptions {
     pub all_formats: bool,
 }
 
-/// The end of a source: the counts of its items, and what it is if it has no known format.
+/// The end of a source: the counts of its items, what it is if it has no known format, whether rows had times of their
+/// own, and what its timestamps seem to be, if they are not milliseconds.
 #[derive(Clone, Copy)]
 pub struct FeedEnd {
     pub counts: Counts,
     pub stranger: Option<Stranger>,
+    pub is_dated: bool,
+    pub unit: Option<Unit>,
 }
 
 /// Writes the log that `track` reads: a line for each extended squitter in the source, with its time. The lines of a
-/// piece are put before the next get, unless they wait for frames that come late. Keeps one unfinished item, and up to
-/// 4096 squitters that wait. Allocates nothing.
+/// piece are put before the next get, unless they wait for frames that come late. Keeps one unfinished item, and the
+/// squitters that wait. Only these are allocated, so with a `reorder` of 0 nothing is.
 ///
 /// A live source without frames in a known format is read until that is known, and any other source to its end. Returns
-/// the counts of all items, and what the source is if it has no known format. Errors: `Read` if a get failed, after the
-/// lines of all items that were read whole; `Write` if a put or the finish failed, within these lines; never `Memory`.
-pub fn run_feed<C: Clock, S: Source, K: Sink>(
+/// the counts of all items, what the source is if it has no known format, and what its timestamps seem to be. Errors:
+/// `Read` if a get failed, after the lines of all items that were read whole, but for the squitters that wait; `Write`
+/// if a put or the finish failed, within these lines; `Memory` if an allocation failed, within these lines.
+pub fn run_feed<A: Allocator, C: Clock, S: Source, K: Sink>(
+    alloc: A,
     options: &FeedOptions,
     clock: &mut C,
     source: &mut S,
@@ -70,7 +76,8 @@ pub fn run_feed<C: Clock, S: Source, K: Sink>(
 {
     let is_live = clock.is_live();
     let mut feed = Feed::new(options.format, &manner_of(options, is_live));
-    let mut order = order_of(options.reorder);
+    let mut order = order_of(alloc, options.reorder);
+    let mut units = Units::new();
     let mut piece = [0; PIECE];
     let mut text = FeedText::new();
     loop {
@@ -79,22 +86,27 @@ pub fn run_feed<C: Clock, S: Source, K: Sink>(
         };
         let arrival = clock.now();
         if count == 0 {
-            return put_end(&mut feed, &mut order, arrival, &mut text, sink);
+            return put_end(
+                &mut feed, &mut order, &mut units, is_live, arrival, &mut text, sink,
+            );
         }
         match put_piece(
             &mut feed,
             &mut order,
+            &mut units,
             &piece[..count],
             arrival,
             &mut text,
             sink,
         ) {
             Ok(()) => {}
-            Err(Failed) => return Err(RunFault::Write),
+            Err(fault) => return Err(fault),
         }
         if is_live && feed.stranger().is_some() {
             let end = clock.now();
-            return put_end(&mut feed, &mut order, end, &mut text, sink);
+            return put_end(
+                &mut feed, &mut order, &mut units, is_live, end, &mut text, sink,
+            );
         }
     }
 }
@@ -114,6 +126,7 @@ fn manner_of(options: &FeedOptions, is_live: bool) -> Manner
 
 // Runs `feed` over the input, with the options that the words spell.
 pub(crate) fn feed<C: Clock, S: Source, K: Sink>(
+    alloc: Global,
     words: &FeedWords<'_>,
     clock: &mut C,
     input: &mut S,
@@ -123,7 +136,7 @@ pub(crate) fn feed<C: Clock, S: Source, K: Sink>(
         (taken_from S.Source input.old input.new) (written_on K.Sink output.old output.new) }
 {
     match read_feed_options(words) {
-        Ok(options) => feed_with(&options, clock, input, output),
+        Ok(options) => feed_with(alloc, &options, clock, input, output),
         Err(fault) => refuse_argument(fault),
     }
 }
@@ -131,6 +144,7 @@ pub(crate) fn feed<C: Clock, S: Source, K: Sink>(
 // Runs `feed` with these options. Not inlined, so that no other command pays for its local variables.
 #[inline(never)]
 fn feed_with<C: Clock, S: Source, K: Sink>(
+    alloc: Global,
     options: &FeedOptions,
     clock: &mut C,
     input: &mut S,
@@ -139,7 +153,7 @@ fn feed_with<C: Clock, S: Source, K: Sink>(
     ensures { IsFeedRunIn options.now (times_of C.Clock clock.old clock.new) (reply_parts result)
         (taken_from S.Source input.old input.new) (written_on K.Sink output.old output.new) }
 {
-    match run_feed(options, clock, input, output) {
+    match run_feed(alloc, options, clock, input, output) {
         Ok(end) => reply_at_end(&end),
         Err(fault) => stop(fault),
     }
@@ -162,7 +176,7 @@ fn reply_at_end(end: &FeedEnd) -> Reply
                 Status::Good
             },
             output: None,
-            error: Some(ReportLine::Summary(end.counts)),
+            error: Some(ReportLine::Summary(*end)),
         },
     }
 }

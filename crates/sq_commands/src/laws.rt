@@ -7,6 +7,7 @@ ghost use Rattle.sq_log.specs.declared.log.Tally.{Tally};
 ghost use Rattle.sq_text.specs.Timed.{TimedReader};
 ghost use Rattle.sq_track.specs.Held.{Held, StandsFor, settings};
 ghost use Rattle.sq_track.specs.History.{History};
+ghost use Rattle.sq_commands.specs.Feed.{WritesAllSorted};
 ghost use Rattle.sq_commands.specs.Requests.{Asked};
 ghost use Rattle.sq_commands.specs.declared.status.Status.{Status as Ending};
 ghost use Rattle.sq_commands.specs.Formats.{Telling, Writers};
@@ -95,4 +96,10 @@ pub fn heard_lines_are_true<K: Sink>()
         → (answers : List (LineAnswer HeardSquitter)) × (next : History)
         × AreHeardLines reader (settings old) history lines answers next
         × AreTrueAfter old history (told_from 1 answers) }
+{}
+
+/// The lines that a whole run of `feed` writes are those of all its squitters, sorted by timestamp. So none is late,
+/// with any `reorder`.
+pub fn feed_writes_all_sorted()
+    ensures { WritesAllSorted }
 {}

@@ -8,7 +8,6 @@ ghost use Rattle.sq_text.specs.Rows.{Blank, Number, Word, cells, header_text, ro
 ghost use Rattle.sq_devices.specs.Changes.{FailedWithin, WroteLast, WroteNothing, WroteOrFailed, taken_from};
 ghost use Rattle.sq_devices.specs.Changes.{written_on};
 ghost use Rattle.sq_devices.specs.Clocks.{times_of};
-ghost use Rattle.sq_feed.specs.Counts.{Tally as Counts};
 ghost use Rattle.sq_feed.specs.declared.machine.Format.{Format as SourceFormat};
 ghost use Rattle.sq_log.specs.Answers.{WantsAt};
 ghost use Rattle.sq_log.specs.Content.{Answer as Answered, Text, answer_by, content};
@@ -46,7 +45,9 @@ ghost use Rattle.sq_commands.specs.Replies.{IsDelivered, IsReported, ReplyParts,
 ghost use Rattle.sq_commands.specs.Runs.{IsStreamed};
 ghost use Rattle.sq_commands.specs.Squitters.{check_columns, squitter_telling};
 ghost use Rattle.sq_commands.specs.SlowAnswers.{AreTrueAfter, AreTrueAnswers, heard_in, received_in};
-ghost use Rattle.sq_commands.specs.Summary.{are_all_damaged, stranger_text, summary_text};
+ghost use Rattle.sq_commands.specs.Summary.{advice, are_all_damaged, counts_text, stranger_text, summary_text, summed};
+ghost use Rattle.sq_commands.specs.Summary.{unit_line};
+ghost use Rattle.sq_commands.specs.declared.feed.FeedEnd.{FeedEnd};
 ghost use Rattle.sq_feed.specs.declared.message.Stranger.{Stranger};
 ghost use Rattle.sq_commands.specs.Holding.{AreHeardLinesBy, OneListOfAnswers, SomeHolding};
 ghost use Rattle.sq_commands.specs.Track.{HasTracked, IsLogRun, IsTracked, IsTrackedBy};
@@ -56,6 +57,7 @@ ghost use Rattle.sq_commands.specs.Tracking.{OnePast, PastExactly, SomeTracking,
 use crate::answers::HeardSquitter;
 use crate::status::Status;
 use sq_devices::{Clock, Sink, Source};
+use sq_feed::Unit;
 
 /// There is a way to write places and altitudes.
 pub fn some_writers()
@@ -257,18 +259,17 @@ pub fn feed_ended_exactly<C: Clock, S: Source, K: Sink, F: Sink>()
     ensures good { (options : FeedOptions) (first last : C) (from to : S) (old new : K) (before after : F)
         → IsStreamed (IsFeedRunIn options (times_of C.Clock first last)) Good
         (effects S.Source from to (outputs K.Sink F.Sink old new before after))
-        → (counts : Counts)
-        × IsFed options (times_of C.Clock first last) (Ok (record { counts = counts; stranger = None }))
-        (taken_from S.Source from to) (written_on K.Sink old new) × (are_all_damaged counts ≡ false)
-        × WroteOrFailed (written_on F.Sink before after) (summary_text counts ++ codes "\n") }
+        → (end : FeedEnd) × IsFed options (times_of C.Clock first last) (Ok end)
+        (taken_from S.Source from to) (written_on K.Sink old new)
+        × (end.stranger ≡ None) × (are_all_damaged end.counts ≡ false)
+        × WroteOrFailed (written_on F.Sink before after) (summary_text end ++ codes "\n") }
     ensures refused { (options : FeedOptions) (first last : C) (from to : S) (old new : K) (before after : F)
         → IsStreamed (IsFeedRunIn options (times_of C.Clock first last)) Refused
         (effects S.Source from to (outputs K.Sink F.Sink old new before after))
-        → (counts : Counts) × (stranger : Option Stranger)
-        × IsFed options (times_of C.Clock first last) (Ok (record { counts = counts; stranger = stranger }))
+        → (end : FeedEnd) × IsFed options (times_of C.Clock first last) (Ok end)
         (taken_from S.Source from to) (written_on K.Sink old new)
-        × MatchOption stranger ((are_all_damaged counts ≡ true)
-        × WroteOrFailed (written_on F.Sink before after) (summary_text counts ++ codes "\n"))
+        × MatchOption end.stranger ((are_all_damaged end.counts ≡ true)
+        × WroteOrFailed (written_on F.Sink before after) (summary_text end ++ codes "\n"))
         (λ one. WroteOrFailed (written_on F.Sink before after) (stranger_text one ++ codes "\n")) }
     ensures used { (options : FeedOptions) (first last : C) (from to : S) (old new : K) (before after : F)
         → ¬ IsStreamed (IsFeedRunIn options (times_of C.Clock first last)) Misused
@@ -293,4 +294,17 @@ pub fn true_exactly()
         let three : Answer HeardSquitter = record { number = 3; verdict = Ok last } in
         (received_in (one ∷ two ∷ three ∷ []) ≡ first.timed ∷ last.timed ∷ [])
         × (heard_in (one ∷ two ∷ three ∷ []) ≡ Ok first.heard ∷ Ok last.heard ∷ [])) }
+{}
+
+/// The summary is a line on the unit, the counts, and what to do. Times that were set aside show several clocks only
+/// where a clock told them, and where they are more than four, and more than one for 20 that were written.
+pub fn summary_exactly()
+    ensures whole { (end : FeedEnd) → summary_text end ≡ unit_line end.unit ++ counts_text end.counts ++ advice end }
+    ensures unit { unit_line (Some Unit.Seconds)
+        ≡ codes "the timestamps of this log seem to be seconds; they have to be milliseconds\n" }
+    ensures none { unit_line None ≡ [] }
+    ensures clocks { advice (summed 100 6 false) ≡ codes "; try --arrival: the source seems to have several clocks" }
+    ensures few { advice (summed 100 5 false) ≡ [] }
+    ensures four { advice (summed 9 4 false) ≡ [] }
+    ensures dated { advice (summed 100 6 true) ≡ [] }
 {}

@@ -47,6 +47,6 @@ pub fn answer_live<C: Clock, S: Source, K: Sink, F: Sink>(
         Request::Reply(words) => deliver(&reply_to(words), output, faults),
         Request::Check { format } => report_end(&check(format, input, output), faults),
         Request::Track(words) => report_end(&track(alloc, &words, input, output), faults),
-        Request::Feed(words) => report_end(&feed(&words, clock, input, output), faults),
+        Request::Feed(words) => report_end(&feed(alloc, &words, clock, input, output), faults),
     }
 }

@@ -19,6 +19,7 @@ mod pair;
 mod show;
 
 use crate::arguments::ArgumentFault;
+use crate::feed::FeedEnd;
 use crate::requests::ReplyRequest;
 use crate::status::Status;
 use crate::summary::summary;
@@ -28,7 +29,6 @@ use pair::pair;
 use show::show;
 use sq_devices::{Failed, Sink, put_last};
 use sq_digits::TextBuffer;
-use sq_feed::Counts;
 use sq_log::RunFault;
 use sq_message::{Place, PlaceFault};
 use sq_text::{LineFault, place_text, push_fault, push_place_fault};
@@ -42,7 +42,7 @@ pub enum ReportLine {
     /// A line, with its line feed.
     Line(ReplyText),
     /// The summary of a feed.
-    Summary(Counts),
+    Summary(FeedEnd),
 }
 
 /// The result of a command. A command that reads the input writes its output as it reads, so its reply has none.
@@ -201,17 +201,17 @@ fn put_report<F: Sink>(line: Option<&ReportLine>, faults: &mut F)
 {
     match line {
         Some(ReportLine::Line(text)) => report(text.as_str(), faults),
-        Some(ReportLine::Summary(counts)) => report_summary(counts, faults),
+        Some(ReportLine::Summary(end)) => report_summary(end, faults),
         None => {}
     }
 }
 
 // Writes the summary of a feed. Not inlined, so that no other command pays for its text.
 #[inline(never)]
-fn report_summary<F: Sink>(counts: &Counts, faults: &mut F)
-    ensures { WroteOrFailed (written_on F.Sink faults.old faults.new) (summary_text counts.now ++ codes "\n") }
+fn report_summary<F: Sink>(end: &FeedEnd, faults: &mut F)
+    ensures { WroteOrFailed (written_on F.Sink faults.old faults.new) (summary_text end.now ++ codes "\n") }
 {
-    let mut text = summary(counts);
+    let mut text = summary(end);
     text.push(b'\n');
     report(text.as_str(), faults);
 }

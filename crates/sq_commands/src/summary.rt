@@ -2,28 +2,72 @@
 ghost use Rattle.std.specs.Prelude.{◌≡◌, ◌+◌, ◌≤◌, ◌++◌, ℕ, List, codes, length, sum};
 ghost use Rattle.sq_digits.specs.Buffer.{text_len};
 ghost use Rattle.sq_commands.specs.Summary.{advice, are_all_damaged, comma_of, counts_text, format_text, format_texts, joined, other_formats};
-ghost use Rattle.sq_commands.specs.Summary.{part, rest_of, stranger_text, summary_text};
+ghost use Rattle.sq_commands.specs.Summary.{has_several_clocks, part, rest_of, stranger_text, summary_text, unit_line};
+ghost use Rattle.sq_commands.specs.Summary.{unit_text};
 
+use crate::feed::FeedEnd;
 use sq_digits::{TextBuffer, push_decimal};
-use sq_feed::{Counts, Stranger};
+use sq_feed::{Counts, Stranger, Unit};
 
 // How many downlink formats are counted.
 const FORMATS: usize = 25;
 
 // The summary of a feed has fewer bytes.
-pub(crate) type SummaryText = TextBuffer<2048>;
+pub(crate) type SummaryText = TextBuffer<2304>;
 
 // What to do if all items are damaged.
 const ADVICE: &str = ": try without --format; the times of a table are seconds";
 
-// Returns the summary of a feed: the counts, and what to do if all items are damaged.
-pub(crate) fn summary(counts: &Counts) -> SummaryText
-    ensures bytes { result.bytes ≡ summary_text counts.now }
-    ensures len { text_len result ≤ 2000 }
+// What to do if many times were set aside.
+const SEVERAL: &str = "; try --arrival: the source seems to have several clocks";
+
+// So few times set aside, or one for so many written, show no second clock in a source.
+const FEW: u64 = 4;
+
+const MANY: u64 = 20;
+
+// Returns the summary of a feed: a line on the unit of its timestamps, if they are not milliseconds; the counts; and
+// what to do.
+pub(crate) fn summary(end: &FeedEnd) -> SummaryText
+    ensures bytes { result.bytes ≡ summary_text end.now }
+    ensures len { text_len result ≤ 2200 }
 {
-    let mut text = counts_text(counts);
-    push_advice(&mut text, counts);
+    let mut text = SummaryText::new();
+    push_unit(&mut text, end.unit);
+    push_counts(&mut text, &end.counts);
+    push_advice(&mut text, end);
     text
+}
+
+// Appends a line on the unit of timestamps, if they are not milliseconds.
+fn push_unit(text: &mut SummaryText, unit: Option<Unit>)
+    requires { text_len text.old ≤ 10 }
+    ensures bytes { text.new.bytes ≡ text.old.bytes ++ unit_line unit }
+    ensures len { text_len text.new ≤ text_len text.old + 151 }
+{
+    if let Some(unit) = unit {
+        text.push_str(unit_text(unit));
+        text.push_str("\n");
+    }
+}
+
+// Returns the line on timestamps that are not milliseconds, at most 150 bytes.
+fn unit_text(unit: Unit) -> &'static str
+    ensures text { result.now ≡ unit_text unit }
+    ensures short { length result.now ≤ 150 }
+{
+    match unit {
+        Unit::Seconds =>
+            "the timestamps of this log seem to be seconds; they have to be milliseconds",
+        Unit::Microseconds =>
+            "the timestamps seem to be microseconds; a log has milliseconds, and a table has seconds",
+        Unit::Nanoseconds =>
+            "the timestamps seem to be nanoseconds; a log has milliseconds, and a table has seconds",
+        Unit::AllZero =>
+            "all frames of this file have the timestamp 0, as without times: old ones pair with new",
+        Unit::Gps =>
+            "the clock of this source seems to be GPS time (Radarcape): set it to 12 MHz, or read its port with --arrival",
+    }
 }
 
 // Returns whether there were items, and all of them are damaged.
@@ -33,37 +77,46 @@ pub(crate) fn are_all_damaged(counts: &Counts) -> bool
     counts.found() != 0 && counts.damaged() == counts.found()
 }
 
-// Appends what to do if all items are damaged.
-fn push_advice(text: &mut SummaryText, counts: &Counts)
-    requires { text_len text.old ≤ 1900 }
-    ensures bytes { text.new.bytes ≡ text.old.bytes ++ advice counts.now }
+// Returns whether a source with a receiver's clock seems to have several: many times were set aside.
+fn has_several_clocks(end: &FeedEnd) -> bool
+    ensures { result ≡ has_several_clocks end.now }
+{
+    let aside = end.counts.aside();
+    !end.is_dated && aside > FEW && aside > end.counts.written() / MANY
+}
+
+// Appends what to do if all items are damaged, or if many times were set aside.
+fn push_advice(text: &mut SummaryText, end: &FeedEnd)
+    requires { text_len text.old ≤ 2100 }
+    ensures bytes { text.new.bytes ≡ text.old.bytes ++ advice end.now }
     ensures len { text_len text.new ≤ text_len text.old + 60 }
 {
-    if are_all_damaged(counts) {
+    if are_all_damaged(&end.counts) {
         text.push_str(ADVICE);
+    } else if has_several_clocks(end) {
+        text.push_str(SEVERAL);
     }
 }
 
-// Returns the counts of a feed.
-fn counts_text(counts: &Counts) -> SummaryText
-    ensures bytes { result.bytes ≡ counts_text counts.now }
-    ensures len { text_len result ≤ 1900 }
+// Appends the counts of a feed.
+fn push_counts(text: &mut SummaryText, counts: &Counts)
+    requires { text_len text.old ≤ 200 }
+    ensures bytes { text.new.bytes ≡ text.old.bytes ++ counts_text counts.now }
+    ensures len { text_len text.new ≤ text_len text.old + 1900 }
 {
-    let mut text = SummaryText::new();
-    push_decimal(&mut text, counts.written());
+    push_decimal(text, counts.written());
     text.push_str(" written");
-    push_others(&mut text, counts);
-    push_part(&mut text, counts.mode_ac(), " of Mode A/C");
-    push_part(&mut text, counts.multilaterated(), " multilaterated");
-    push_part(&mut text, counts.receiver_ids(), " receiver ids");
-    push_part(&mut text, counts.aside(), " set aside");
-    push_part(&mut text, counts.damaged(), " damaged");
-    text
+    push_others(text, counts);
+    push_part(text, counts.mode_ac(), " of Mode A/C");
+    push_part(text, counts.multilaterated(), " multilaterated");
+    push_part(text, counts.receiver_ids(), " receiver ids");
+    push_part(text, counts.aside(), " set aside");
+    push_part(text, counts.damaged(), " damaged");
 }
 
 // Appends a count and its name, if the count is not 0.
 fn push_part(text: &mut SummaryText, count: u64, name: &str)
-    requires { text_len text.old + 22 + length name.now ≤ 2048 }
+    requires { text_len text.old + 22 + length name.now ≤ 2304 }
     ensures bytes { text.new.bytes ≡ text.old.bytes ++ part count name.now }
     ensures len { text_len text.new ≤ text_len text.old + 22 + length name.now }
 {
@@ -77,7 +130,7 @@ fn push_part(text: &mut SummaryText, count: u64, name: &str)
 
 // Appends how many frames have other downlink formats, and which.
 fn push_others(text: &mut SummaryText, counts: &Counts)
-    requires { text_len text.old ≤ 100 }
+    requires { text_len text.old ≤ 300 }
     ensures bytes { text.new.bytes ≡ text.old.bytes ++ other_formats counts.now.formats }
     ensures len { text_len text.new ≤ text_len text.old + 1400 }
 {
@@ -94,7 +147,7 @@ fn push_others(text: &mut SummaryText, counts: &Counts)
 
 // Appends the downlink formats that have frames.
 fn push_formats(text: &mut SummaryText, formats: &[u64; 25])
-    requires { text_len text.old ≤ 200 }
+    requires { text_len text.old ≤ 400 }
     ensures bytes { text.new.bytes ≡ text.old.bytes ++ joined (format_texts 0 formats.now) }
     ensures len { text_len text.new ≤ text_len text.old + 1125 }
 {
@@ -109,7 +162,7 @@ fn push_formats(text: &mut SummaryText, formats: &[u64; 25])
 // Appends a downlink format, if it has frames. Returns whether no format was appended so far.
 fn push_format(text: &mut SummaryText, is_first: bool, format: usize, count: u64) -> bool
     requires small { format ≤ 24 }
-    requires room { text_len text.old + 45 ≤ 2048 }
+    requires room { text_len text.old + 45 ≤ 2304 }
     ensures bytes { (more : List (List ℕ)) → text.new.bytes ++ rest_of result more
         ≡ text.old.bytes ++ rest_of is_first (format_text format count ++ more) }
     ensures len { text_len text.new ≤ text_len text.old + 45 }
@@ -127,7 +180,7 @@ fn push_format(text: &mut SummaryText, is_first: bool, format: usize, count: u64
 
 // Appends the comma before a text, unless it is the first.
 fn push_comma(text: &mut SummaryText, is_first: bool)
-    requires { text_len text.old + 2 ≤ 2048 }
+    requires { text_len text.old + 2 ≤ 2304 }
     ensures bytes { text.new.bytes ≡ text.old.bytes ++ comma_of is_first }
     ensures len { text_len text.new ≤ text_len text.old + 2 }
 {
@@ -144,10 +197,10 @@ fn others_of(counts: &Counts) -> u64
     others - counts.multilaterated() - counts.damaged() - counts.aside()
 }
 
-// Returns the line on a source without frames, at most 100 bytes.
+// Returns the line on a source without frames, at most 140 bytes.
 pub(crate) fn stranger_text(stranger: Stranger) -> &'static str
     ensures text { result.now ≡ stranger_text stranger }
-    ensures short { length result.now ≤ 100 }
+    ensures short { length result.now ≤ 140 }
 {
     match stranger {
         Stranger::Sbs =>
@@ -157,6 +210,6 @@ pub(crate) fn stranger_text(stranger: Stranger) -> &'static str
         Stranger::Utf16 => "the input is UTF-16: try iconv -f UTF-16 -t UTF-8 FILE | squitter feed",
         Stranger::Json => "the input is lines of JSON, which have no frames",
         Stranger::NoFrame =>
-            "no frame is in the first 16384 bytes: try --format=beast, avr, csv or log",
+            "no frame is in the first 16384 bytes: try --format=beast, avr, csv or log; a table has the columns time (seconds), icao24 and rawmsg",
     }
 }

@@ -68,7 +68,7 @@ const IN_PIECES: [Row; 9] = [
         input: b"*8D40621D58C382D690C8AC2863A7;\n*5D40621D000000;\n*8D40621D58C386435CC412692AD6;\n",
         status: 0,
         written: "0 8D40621D58C382D690C8AC2863A7\n0 8D40621D58C386435CC412692AD6\n",
-        reported: "2 written, 1 of other downlink formats (DF11 1)\n",
+        reported: "all frames of this file have the timestamp 0, as without times: old ones pair with new\n2 written, 1 of other downlink formats (DF11 1)\n",
     },
     Row {
         name: "feed of a log",

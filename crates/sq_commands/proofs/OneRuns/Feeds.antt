@@ -9,9 +9,11 @@ use Rattle.std.proofs.lemmas.Slice.Eq.{bytes_eq-Decides}
 use Rattle.std.proofs.lemmas.List.Elements.{All-cons, All-head, All-nil, All-tail}
 use Rattle.sq_devices.specs.Changes.{Sent}
 use Rattle.sq_devices.specs.Clocks.{recorded}
-use Rattle.sq_feed.specs.Ears.{Hears, ear_after, ear_after_all, told_of, told_of_all}
-use Rattle.sq_feed.specs.Feeds.{AreFed, Fed, Feeding, bytes_in, items_in, last_fed}
+use Rattle.sq_feed.specs.Ears.{Hears, ear_after, ear_after_all, ear_ended, told_ended, told_of, told_of_all}
+use Rattle.sq_feed.specs.Feeds.{AreFed, Fed, Feeding, bytes_in, ear_at_last, items_in, last_fed, told_at_end}
 use Rattle.sq_feed.specs.Readers.{awaited, items_as}
+use Rattle.sq_feed.specs.Units.{nothing_watched, watched_all}
+use Rattle.sq_feed.proofs.Watching.{watched_more}
 use Rattle.sq_feed.specs.declared.machine.Format.{Format}
 use Rattle.sq_feed.specs.declared.message.Found.{Found}
 use Rattle.sq_feed.specs.declared.message.Timed.{Timed}
@@ -21,7 +23,7 @@ use Rattle.sq_commands.specs.declared.arguments.ArgumentFault.{ArgumentFault}
 use Rattle.sq_commands.specs.declared.status.Status.TheVariants.{Broken}
 use Rattle.sq_commands.specs.Faults.{IsMisuse}
 use Rattle.sq_commands.specs.Feed.{HasFedAll, IsFeedFault, IsFeedOptions, IsFeedRun, IsFeedRunIn, IsMillis, IsNoSource}
-use Rattle.sq_commands.specs.Feed.{IsSourceWord, all_lines, all_squitters, arrivals_in, end_by, end_of, lines_whole}
+use Rattle.sq_commands.specs.Feed.{IsSourceWord, all_lines, all_squitters, arrivals_in, end_after, end_by, lines_whole}
 use Rattle.sq_commands.specs.Feed.{feed_reply, manner_of, squitters_in, start_of, usual_leap}
 use Rattle.sq_commands.specs.declared.feed.FeedEnd.{FeedEnd}
 use Rattle.sq_commands.specs.declared.feed.FeedOptions.{FeedOptions}
@@ -80,6 +82,10 @@ zero_squitters (one ∷ more) before (fed, others) zero =
     (rest ∙ ap (λ (k : Hears). told_of_all 0 k (items_in more)) heard)
     ∙ sym (told_append before.ear one.found (items_in more))
 
+-- the squitters of all items of a recorded input, and of its rows that waited at the end
+abbrev squitters_whole : Hears → List Found → List Timed
+squitters_whole ear items = told_of_all 0 ear items ++ told_ended (ear_after_all 0 ear items)
+
 module _ (options : FeedOptions) (calls : List Fed) (arrival : ℕ) (bytes : List ℕ)
     (fed : AreFed (start_of options recorded) calls) (whole : bytes_in calls ≡ bytes)
     (zero : All IsZero (arrivals_in calls ++ arrival ∷ [])) where
@@ -101,25 +107,38 @@ module _ (options : FeedOptions) (calls : List Fed) (arrival : ℕ) (bytes : Lis
   heard : last.ear ≡ ear_after_all 0 start.ear (items_in calls)
   heard = zero_heard calls start fed front
 
-  -- the squitters are those of the items of the whole input
-  whole_squitters : all_squitters start calls arrival ≡ told_of_all 0 start.ear (items_as options.format bytes)
+  -- the state after the items of the whole input
+  whole_ear : ear_at_last arrival last ≡ ear_after_all 0 start.ear (items_as options.format bytes)
+  whole_ear =
+      ap₂ (λ (n : ℕ) (k : Hears). ear_after_all n k (awaited last.reader [])) end heard
+      ∙ sym (ear_append start.ear (items_in calls) (awaited last.reader []))
+      ∙ ap (ear_after_all 0 start.ear) items
+
+  -- the squitters are those of the items of the whole input, and of its rows that waited
+  whole_squitters : all_squitters start calls arrival ≡ squitters_whole start.ear (items_as options.format bytes)
   whole_squitters =
-      ap₂ (λ (l m : List Timed). l ++ m) (zero_squitters calls start fed front)
+      let last_told = told_of_all arrival last.ear (awaited last.reader []) in
+      sym (append_assoc (squitters_in start calls) last_told (told_ended (ear_at_last arrival last)))
+      ∙ ap₂ (λ (l m : List Timed). l ++ m)
+      (ap₂ (λ (l m : List Timed). l ++ m) (zero_squitters calls start fed front)
       (ap₂ (λ (n : ℕ) (k : Hears). told_of_all n k (awaited last.reader [])) end heard)
       ∙ sym (told_append start.ear (items_in calls) (awaited last.reader []))
-      ∙ ap (told_of_all 0 start.ear) items
+      ∙ ap (told_of_all 0 start.ear) items) (ap told_ended whole_ear)
 
   -- so are the lines
   pub whole_lines : all_lines options start calls arrival
-      ≡ lines_whole options.reorder (told_of_all 0 start.ear (items_as options.format bytes))
+      ≡ lines_whole options.reorder (squitters_whole start.ear (items_as options.format bytes))
   whole_lines = ap (lines_whole options.reorder) whole_squitters
 
   -- the end is that of the items of the whole input
-  pub whole_end : end_of arrival last ≡ end_by (ear_after_all 0 start.ear (items_as options.format bytes))
+  pub whole_end : end_after false start calls arrival
+      ≡ end_by false (watched_all nothing_watched (squitters_whole start.ear (items_as options.format bytes)))
+      (ear_ended (ear_after_all 0 start.ear (items_as options.format bytes)))
   whole_end =
-      ap₂ (λ (n : ℕ) (k : Hears). end_by (ear_after_all n k (awaited last.reader []))) end heard
-      ∙ ap end_by (sym (ear_append start.ear (items_in calls) (awaited last.reader [])))
-      ∙ ap (λ l. end_by (ear_after_all 0 start.ear l)) items
+      ap₂ (end_by false)
+      (sym (watched_more nothing_watched (squitters_in start calls) (told_at_end arrival last))
+      ∙ ap (watched_all nothing_watched) whole_squitters)
+      (ap ear_ended whole_ear)
 
 -- ---- words
 
@@ -218,7 +237,7 @@ module _ (d e : Effects) (bytes : List ℕ) (d_is : d.input.before ≡ Some byte
           → HasFedAll options recorded end' e.outputs.output bytes → OneReply x y d e
       alike d_end e_end (calls, arrival, fed, whole, zero, (sent, counted))
           (calls', arrival', fed', whole', zero', (sent', counted')) =
-          let heard = told_of_all 0 (start_of options recorded).ear (items_as options.format bytes) in
+          let heard = squitters_whole (start_of options recorded).ear (items_as options.format bytes) in
           let text = lines_whole options.reorder heard in
           let same = whole_lines options calls arrival bytes fed whole zero in
           let same' = whole_lines options calls' arrival' bytes fed' whole' zero' in

@@ -17,7 +17,7 @@ loop-slot-preserved g c =
     record {
       given = (
         given ++ one ∷ [],
-        sorted_give 4096 c.args.order.now l.order c.give_into.new.self [] given one sorts
+        sorted_give c.args.order.now l.order c.give_into.new.self [] given one sorts
             (sym c.loop-slot-test.ensures.due) c.loop-slot-test.ensures.given,
         subst (HasLined k c.args.sink.now c.put_line.new.sink c.args.text.now.bytes c.put_line.new.text.bytes)
             (sym (lines_of-append given (one ∷ [])))
@@ -39,7 +39,7 @@ returns-in_err-put_line-clause-part g c =
     let (given, sorts, lined) = l.invariant.given in
     let p = err_from_is_err_and c.from_residual.result c.from_residual.ensures.1 in
     rw (p.1) (part_given c.args.order.now c.give_into.new.self [] [] [] (given ++ one ∷ []) text before after refl
-    (sorted_give 4096 c.args.order.now l.order c.give_into.new.self [] given one sorts
+    (sorted_give c.args.order.now l.order c.give_into.new.self [] given one sorts
     (sym c.loop-slot-test.ensures.due) c.loop-slot-test.ensures.given)
     (subst (λ x. WroteFront before after (text ++ x)) (sym (lines_of-append given (one ∷ [])))
     (lined_part k c.args.sink.now l.sink after text l.text.bytes (lines_of given) (lines_of (one ∷ [])) lined
@@ -51,11 +51,11 @@ returns-clause-sorted g c =
     let l = c.loop-slot in
     let (given, sorts, lined) = l.invariant.given in
     flushed_none l.order c.give_into.new.self c.loop-slot-test.ensures.given
-    ∙ (sorted_end 4096 c.args.order.now l.order [] given sorts (sym c.loop-slot-test.ensures.due)).1
+    ∙ (sorted_end c.args.order.now l.order [] given sorts (sym c.loop-slot-test.ensures.due)).1
 
 pub returns-clause-put : goal.returns-clause-put
 returns-clause-put g c =
     let l = c.loop-slot in
     let (given, sorts, lined) = l.invariant.given in
     subst (λ x. HasLined g.K.Sink c.args.sink.now l.sink c.args.text.now.bytes l.text.bytes (lines_of x))
-    (sorted_end 4096 c.args.order.now l.order [] given sorts (sym c.loop-slot-test.ensures.due)).0 lined
+    (sorted_end c.args.order.now l.order [] given sorts (sym c.loop-slot-test.ensures.due)).0 lined

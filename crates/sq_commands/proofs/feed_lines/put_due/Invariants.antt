@@ -8,7 +8,7 @@ use Rattle.sq_commands.proofs.feed_lines.put_due.Given as goal
 -- the lines of the first squitters that are due were made
 abbrev pub invariant-loop-slot : goal.invariant-loop-slot
 invariant-loop-slot g l = record {
-  given : (given : List Timed) × HasSorted 4096 l.initial.order [] given l.order
+  given : (given : List Timed) × HasSorted l.initial.order [] given l.order
       × HasLined g.K.Sink l.initial.sink l.sink l.initial.text.bytes l.text.bytes (lines_of given);
   unfinished : g.K.Sink.finishes l.sink ≡ g.K.Sink.finishes l.initial.sink;
 }

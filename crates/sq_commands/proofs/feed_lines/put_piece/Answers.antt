@@ -1,16 +1,15 @@
-use Rattle.std.proofs.Common.{◌≡◌, ◌∙◌, ◌+◌, ◌-◌, ◌++◌, ℕ, List, [], ◌∷◌, ap, append-nil, arith, length, refl, subst, sym, take}
+use Rattle.std.proofs.Common.{◌≡◌, ◌∙◌, ◌+◌, ◌-◌, ◌++◌, ℕ, List, [], ◌∷◌, append-nil, arith, drop, length, refl, subst, sym, take}
 use Rattle.std.proofs.lemmas.List.{take_all}
-use Rattle.std.proofs.lemmas.Result.{err_from_is_err_and}
 use Rattle.sq_devices.specs.Calls.{HasPut}
 use Rattle.sq_devices.specs.Device.{WroteFront}
-use Rattle.sq_feed.specs.Ears.{told_of_all}
-use Rattle.sq_feed.specs.Feeds.{HasFed, stored}
-use Rattle.sq_feed.proofs.Feeding.{rest_is, within_rest}
-use Rattle.sq_feed.proofs.Sourced.{still_ending, work_left}
-use Rattle.sq_commands.specs.Feed.{HasLined, HasPutPart, HasPutSorted}
-use Rattle.sq_commands.proofs.Feeding.{fed_more, fed_nothing}
-use Rattle.sq_commands.proofs.Sortings.{always_ok, lined_front, lined_more, lined_nothing, lined_part, lined_put}
-use Rattle.sq_commands.proofs.Sortings.{on_err, on_ok, put_more, put_nothing, put_part_more}
+use Rattle.sq_feed.specs.Feeds.{HasTold, stored}
+use Rattle.sq_feed.proofs.Feeding.{told_nothing, told_piece, within_rest}
+use Rattle.sq_feed.proofs.Sourced.{ended_step, work_left}
+use Rattle.sq_feed.proofs.Watching.{watched_none, watched_on}
+use Rattle.sq_feed.specs.Units.{watched_all}
+use Rattle.sq_commands.specs.Feed.{HasLined, HasPutSorted}
+use Rattle.sq_commands.proofs.Sortings.{lined_front, lined_more, lined_nothing, lined_part, lined_put, put_more}
+use Rattle.sq_commands.proofs.Sortings.{put_nothing, put_part_more, stopped_before}
 use Rattle.sq_commands.proofs.feed_lines.put_piece.Goals as goal
 
 pub loop-slot-init : goal.loop-slot-init
@@ -22,25 +21,29 @@ loop-slot-init g c =
     record {
       within = omega arith;
       ended = λ _ has. has;
-      fed = fed_nothing c.args.arrival c.args.feed.now (λ came. HasPutSorted order order came lined)
-          (put_nothing order lined
-          (subst (λ text. HasLined k sink sink text c.clear.new.self.bytes []) c.clear.ensures
-          (lined_nothing k sink c.clear.new.self.bytes)));
+      told = (
+        [],
+        told_nothing c.args.arrival c.args.feed.now,
+        (
+          put_nothing order lined c.requires
+              (subst (λ text. HasLined k sink sink text c.clear.new.self.bytes []) c.clear.ensures
+              (lined_nothing k sink c.clear.new.self.bytes)),
+          sym (watched_none c.args.units.now),
+        ),
+      );
       unfinished = refl;
     }
 
 -- the line of a squitter was made, or of those that it made due
-pub loop-slot-preserved-in-Continue-1 : goal.loop-slot-preserved-in-Continue-1
-loop-slot-preserved-in-Continue-1 g c =
+pub loop-slot-preserved-in-Ok : goal.loop-slot-preserved-in-Ok
+loop-slot-preserved-in-Ok g c =
     let k = g.K.Sink in
     let l = c.loop-slot in
     let piece : List ℕ = c.args.piece.now in
     let n : ℕ = c.step_into-step.result.taken in
     let next = c.step_into-step.new.self in
     let slot = c.step_into-step.new.into in
-    let w = c.step_into-step.ensures.told in
-    let told = told_of_all c.args.arrival l.feed.ear w.found in
-    let came : slot ∷ [] ≡ told = subst (λ b. stored b slot ≡ told) c.if-step.true w.told_are in
+    let (before, told, (put, seen)) = l.invariant.told in
     let old = c.args.sink.now in
     let new = c.put_squitter.new.sink in
     let first = c.args.order.now in
@@ -50,44 +53,50 @@ loop-slot-preserved-in-Continue-1 g c =
     let R = HasLined k old new [] c.put_squitter.new.text.bytes in
     record {
       within = within_rest piece l.at n l.invariant.within c.step_into-step.ensures.fits;
-      ended = λ none has. c.step_into-step.ensures.ended (still_ending l.feed.reader (l.invariant.ended none has)
-          (work_left (length piece - l.at) _ (c.goes_on.ensures.more c.loop-slot-test.true) (omega (arith, none))));
-      fed = fed_more c.args.arrival c.args.feed.now l.feed next piece l.at n w.found
-          (λ x. HasPutSorted first l.order x P) (λ x. HasPutSorted first last x R) l.invariant.fed
-          (subst (λ bs. HasFed c.args.arrival l.feed (take n bs) w.found next) (rest_is piece l.at) w.fed)
-          (λ before put. put_more first l.order last before told P Q R
-          (λ x y. lined_more k old l.sink new [] l.text.bytes c.put_squitter.new.text.bytes x y) put
-          (subst (λ x. HasPutSorted l.order last x Q) came c.in_ok-put_squitter.ensures.put));
+      ended = λ none has. ended_step l.feed next (l.invariant.ended none has)
+          (work_left (length piece - l.at) _ (c.goes_on.ensures.more c.loop-slot-test.true) (omega (arith, none)))
+          c.step_into-step.ensures.ended c.step_into-step.ensures.ready;
+      told = (
+        before ++ slot ∷ [],
+        told_piece c.args.arrival c.args.feed.now l.feed next piece l.at n before (slot ∷ []) told
+            (subst (λ b. HasTold c.args.arrival l.feed (take n (take (length piece - l.at) (drop l.at piece)))
+            (stored b slot) next) c.if-step.true c.step_into-step.ensures.told),
+        (
+          put_more first l.order last before (slot ∷ []) P Q R
+              (λ x y. lined_more k old l.sink new [] l.text.bytes c.put_squitter.new.text.bytes x y) put
+              c.in-Ok.ensures.put,
+          watched_on c.args.units.now l.units c.hear_frame.new.self before (slot ∷ []) slot seen c.hear_frame.ensures
+              refl,
+        ),
+      );
       unfinished = c.put_squitter.ensures.unfinished ∙ l.invariant.unfinished;
     }
 
 -- a prefix of the lines was put
-pub returns-in_err-put_squitter-clause-part : goal.returns-in_err-put_squitter-clause-part
-returns-in_err-put_squitter-clause-part g c =
+pub returns-in-Err-clause-part : goal.returns-in-Err-clause-part
+returns-in-Err-clause-part g c =
     let k = g.K.Sink in
     let l = c.loop-slot in
     let piece : List ℕ = c.args.piece.now in
     let n : ℕ = c.step_into-step.result.taken in
     let next = c.step_into-step.new.self in
     let slot = c.step_into-step.new.into in
-    let w = c.step_into-step.ensures.told in
-    let told = told_of_all c.args.arrival l.feed.ear w.found in
-    let came : slot ∷ [] ≡ told = subst (λ b. stored b slot ≡ told) c.if-step.true w.told_are in
+    let (before, told, (put, seen)) = l.invariant.told in
     let old = c.args.sink.now in
     let after = k.written c.put_squitter.new.sink in
     let first = c.args.order.now in
     let P = HasLined k old l.sink [] l.text.bytes in
     let Q = λ (y : List ℕ). WroteFront (k.written l.sink) after (l.text.bytes ++ y) in
-    let R = WroteFront (k.written old) after in
-    let p = err_from_is_err_and c.from_residual.result c.from_residual.ensures.1 in
-    rw (p.1) (
+    let R = WroteFront (k.written old) after in (
       l.at + n,
-      fed_more c.args.arrival c.args.feed.now l.feed next piece l.at n w.found
-          (λ x. HasPutSorted first l.order x P) (λ x. HasPutPart first x R) l.invariant.fed
-          (subst (λ bs. HasFed c.args.arrival l.feed (take n bs) w.found next) (rest_is piece l.at) w.fed)
-          (λ before put. put_part_more first l.order before told P Q R
-          (λ x y. lined_part k old l.sink after [] l.text.bytes x y) put
-          (subst (λ x. HasPutPart l.order x Q) came c.in_err-put_squitter.ensures.part)),
+      (
+        before ++ slot ∷ [],
+        told_piece c.args.arrival c.args.feed.now l.feed next piece l.at n before (slot ∷ []) told
+            (subst (λ b. HasTold c.args.arrival l.feed (take n (take (length piece - l.at) (drop l.at piece)))
+            (stored b slot) next) c.if-step.true c.step_into-step.ensures.told),
+        put_part_more first l.order before (slot ∷ []) P Q R
+            (λ x y. lined_part k old l.sink after [] l.text.bytes x y) put c.in-Err.ensures.part,
+      ),
     )
 
 -- no squitter came
@@ -98,27 +107,28 @@ loop-slot-preserved g c =
     let piece : List ℕ = c.args.piece.now in
     let n : ℕ = c.step_into-step.result.taken in
     let next = c.step_into-step.new.self in
-    let w = c.step_into-step.ensures.told in
-    let told = told_of_all c.args.arrival l.feed.ear w.found in
-    let none : [] ≡ told =
-    subst (λ b. stored b c.step_into-step.new.into ≡ told) c.if-step.false w.told_are in
-    let first = c.args.order.now in
+    let slot = c.step_into-step.new.into in
+    let (before, told, (put, seen)) = l.invariant.told in
     let P = HasLined k c.args.sink.now l.sink [] l.text.bytes in
     record {
       within = within_rest piece l.at n l.invariant.within c.step_into-step.ensures.fits;
-      ended = λ none has. c.step_into-step.ensures.ended (still_ending l.feed.reader (l.invariant.ended none has)
-          (work_left (length piece - l.at) _ (c.goes_on.ensures.more c.loop-slot-test.true) (omega (arith, none))));
-      fed = fed_more c.args.arrival c.args.feed.now l.feed next piece l.at n w.found
-          (λ x. HasPutSorted first l.order x P) (λ x. HasPutSorted first l.order x P) l.invariant.fed
-          (subst (λ bs. HasFed c.args.arrival l.feed (take n bs) w.found next) (rest_is piece l.at) w.fed)
-          (λ before put. subst (λ x. HasPutSorted first l.order x P)
-          (sym (append-nil before) ∙ ap (λ x. before ++ x) none) put);
+      ended = λ none has. ended_step l.feed next (l.invariant.ended none has)
+          (work_left (length piece - l.at) _ (c.goes_on.ensures.more c.loop-slot-test.true) (omega (arith, none)))
+          c.step_into-step.ensures.ended c.step_into-step.ensures.ready;
+      told = (
+        before ++ [],
+        told_piece c.args.arrival c.args.feed.now l.feed next piece l.at n before [] told
+            (subst (λ b. HasTold c.args.arrival l.feed (take n (take (length piece - l.at) (drop l.at piece)))
+            (stored b slot) next) c.if-step.false c.step_into-step.ensures.told),
+        subst (λ x. HasPutSorted c.args.order.now l.order x P × (l.units ≡ watched_all c.args.units.now x))
+            (sym (append-nil before)) (put, seen),
+      );
       unfinished = l.invariant.unfinished;
     }
 
 -- the whole piece was taken
-pub returns-clause-put : goal.returns-clause-put
-returns-clause-put g c =
+pub returns-in-Ok-put_all-clause-put : goal.returns-in-Ok-put_all-clause-put
+returns-in-Ok-put_all-clause-put g c =
     let k = g.K.Sink in
     let l = c.loop-slot in
     let piece : List ℕ = c.args.piece.now in
@@ -126,33 +136,38 @@ returns-clause-put g c =
     let new = c.put_all.new.sink in
     let whole : take l.at piece ≡ piece =
     take_all l.at piece (omega (arith, (c.goes_on.ensures.done c.loop-slot-test.false).0)) in
-    let (found, fed, put) = l.invariant.fed in
-    on_ok c.put_all.result
-    (λ text. (
-      found,
-      subst (λ bs. HasFed c.args.arrival c.args.feed.now bs found l.feed) whole fed,
-      λ state sorts. let now = put state sorts in (
-        now.0,
-        lined_put k old l.sink new l.text.bytes _ now.1 (subst (HasPut k l.sink new) c.as_bytes.ensures.value text),
+    let (came, told, ((goes, fine, lined), seen)) = l.invariant.told in (
+      came,
+      subst (λ bs. HasTold c.args.arrival c.args.feed.now bs came l.feed) whole told,
+      (
+        (
+          goes,
+          fine,
+          lined_put k old l.sink new l.text.bytes _ lined
+              (subst (HasPut k l.sink new) c.as_bytes.ensures.value c.in-Ok-put_all.ensures.put),
+        ),
+        seen,
       ),
-    )) c.put_all.ensures.put
+    )
 
-pub returns-clause-part : goal.returns-clause-part
-returns-clause-part g c =
+pub returns-in-Err-put_all-clause-part : goal.returns-in-Err-put_all-clause-part
+returns-in-Err-put_all-clause-part g c =
     let k = g.K.Sink in
     let l = c.loop-slot in
     let after = k.written c.put_all.new.sink in
-    let (found, fed, put) = l.invariant.fed in
-    on_err c.put_all.result
-    (λ text. (
+    let (came, told, ((goes, fine, lined), seen)) = l.invariant.told in (
       l.at,
       (
-        found,
-        fed,
-        λ state sorts. lined_front k c.args.sink.now l.sink after l.text.bytes _ (put state sorts).1
-            (subst (WroteFront (k.written l.sink) after) c.as_bytes.ensures.value text),
+        came,
+        told,
+        lined_front k c.args.sink.now l.sink after l.text.bytes _ lined
+            (subst (WroteFront (k.written l.sink) after) c.as_bytes.ensures.value c.in-Err-put_all.ensures.part),
       ),
-    )) c.put_all.ensures.part
+    )
 
-pub returns-clause-ended : goal.returns-clause-ended
-returns-clause-ended g c = always_ok c.put_all.result c.loop-slot.invariant.ended
+pub returns-in-Err-clause-stopped : goal.returns-in-Err-clause-stopped
+returns-in-Err-clause-stopped g c =
+    let l = c.loop-slot in
+    let (came, told, ((goes, fine, lined), seen)) = l.invariant.told in
+    stopped_before c.args.order.now l.order came (g.K.Sink.has_failed c.put_squitter.new.sink) c.in-Err.fault goes
+    c.in-Err.ensures.stopped

@@ -1,10 +1,11 @@
 use Rattle.std.proofs.Common.{◌≡◌, ◌++◌, ℕ, Bool, true, false, List, Option, None, Some, Ok, Err, refl}
 use Rattle.std.specs.Prelude.{MatchOption, codes, if◌then◌else◌}
-use Rattle.sq_devices.specs.Changes.{WroteOrFailed, taken_from, written_on}
+use Rattle.sq_devices.specs.Changes.{WroteOrFailed, written_on}
 use Rattle.sq_devices.specs.Clocks.{times_of}
 use Rattle.sq_feed.specs.Counts.{Tally}
+use Rattle.sq_commands.specs.declared.feed.FeedEnd.{FeedEnd}
 use Rattle.sq_feed.specs.declared.message.Stranger.{Stranger}
-use Rattle.sq_commands.specs.Feed.{IsFed, feed_reply, status_at_end, text_at_end}
+use Rattle.sq_commands.specs.Feed.{feed_reply, status_at_end, text_at_end}
 use Rattle.sq_commands.specs.Replies.{broken_off}
 use Rattle.sq_commands.specs.Summary.{are_all_damaged, stranger_text, summary_text}
 use Rattle.sq_commands.specs.declared.status.Status.TheVariants.{Good, Refused, Misused}
@@ -12,25 +13,26 @@ use Rattle.sq_commands.proofs.BrokenRuns.{broken_feeds}
 use Rattle.sq_commands.proofs.SoundReplies.{reported_as}
 use Rattle.sq_commands.proofs.pins.feed_ended_exactly.Goals as goal
 
-good_by : (counts : Tally) (P : Option Stranger → Type 0) (stranger : Option Stranger)
-    → Good ≡ status_at_end counts stranger → P stranger → P None × (are_all_damaged counts ≡ false)
-good_by counts P None is p = (p, by (are_all_damaged counts) is)
+good_by : (end : FeedEnd) (Said : List ℕ → Type 0) (stranger : Option Stranger)
+    → Good ≡ status_at_end end.counts stranger → Said (text_at_end end stranger)
+    → ◌≡◌ {A = Option Stranger} stranger None × (are_all_damaged end.counts ≡ false) × Said (summary_text end)
+good_by end Said None is said = (refl, by (are_all_damaged end.counts) is, said)
   where
     by : (b : Bool) → Good ≡ (if b then Refused else Good) → b ≡ false
     by true is = absurd (cc is)
     by false is = refl
-good_by counts P (Some stranger) is p = absurd (cc is)
+good_by end Said (Some stranger) is said = absurd (cc is)
 
-refused_by : (counts : Tally) (Said : List ℕ → Type 0) (stranger : Option Stranger)
-    → Refused ≡ status_at_end counts stranger → Said (text_at_end counts stranger)
-    → MatchOption stranger ((are_all_damaged counts ≡ true) × Said (summary_text counts))
+refused_by : (end : FeedEnd) (Said : List ℕ → Type 0) (stranger : Option Stranger)
+    → Refused ≡ status_at_end end.counts stranger → Said (text_at_end end stranger)
+    → MatchOption stranger ((are_all_damaged end.counts ≡ true) × Said (summary_text end))
     (λ one. Said (stranger_text one))
-refused_by counts Said None is said = (by (are_all_damaged counts) is, said)
+refused_by end Said None is said = (by (are_all_damaged end.counts) is, said)
   where
     by : (b : Bool) → Refused ≡ (if b then Refused else Good) → b ≡ true
     by true is = refl
     by false is = absurd (cc is)
-refused_by counts Said (Some stranger) is said = said
+refused_by end Said (Some stranger) is said = said
 
 misused_by : (counts : Tally) (stranger : Option Stranger) → Misused ≡ status_at_end counts stranger → ⊥
 misused_by counts None is = by (are_all_damaged counts) is
@@ -43,21 +45,18 @@ misused_by counts (Some stranger) is = cc is
 pub returns-clause-good : goal.returns-clause-good
 returns-clause-good g c options first last from to old new before after (reply, (Ok end, fed, is), said) =
     let ended = reported_as reply (feed_reply (Ok end)) Good (written_on g.F.Sink before after) is said in
-    let by = good_by end.counts (λ s. IsFed options (times_of g.C.Clock first last)
-    (Ok (record { counts = end.counts; stranger = s })) (taken_from g.S.Source from to) (written_on g.K.Sink old new)
-    × WroteOrFailed (written_on g.F.Sink before after) (text_at_end end.counts s ++ codes "\n")) end.stranger ended.0
-    (fed, ended.1) in
-    (end.counts, by.0.0, by.1, by.0.1)
+    let by = good_by end (λ text. WroteOrFailed (written_on g.F.Sink before after) (text ++ codes "\n")) end.stranger
+    ended.0 ended.1 in
+    (end, fed, by.0, by.1, by.2)
 returns-clause-good g c options first last from to old new before after (reply, (Err fault, fed, is), said) =
     absurd (cc (reported_as reply (broken_off fault) Good (written_on g.F.Sink before after) is said).0)
 
 pub returns-clause-refused : goal.returns-clause-refused
 returns-clause-refused g c options first last from to old new before after (reply, (Ok end, fed, is), said) =
     let ended = reported_as reply (feed_reply (Ok end)) Refused (written_on g.F.Sink before after) is said in (
-      end.counts,
-      end.stranger,
+      end,
       fed,
-      refused_by end.counts (λ text. WroteOrFailed (written_on g.F.Sink before after) (text ++ codes "\n")) end.stranger
+      refused_by end (λ text. WroteOrFailed (written_on g.F.Sink before after) (text ++ codes "\n")) end.stranger
           ended.0 ended.1,
     )
 returns-clause-refused g c options first last from to old new before after (reply, (Err fault, fed, is), said) =

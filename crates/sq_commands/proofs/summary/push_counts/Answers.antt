@@ -1,16 +1,15 @@
 use Rattle.std.proofs.Common.{◌∙◌, ◌++◌, ap, ap₂, ℕ, List}
 use Rattle.std.specs.Prelude.{codes, decimal}
-use Rattle.sq_commands.specs.Summary.{other_formats, part, counts_text}
-use Rattle.sq_commands.proofs.Summaries.{eight_texts}
-use Rattle.sq_commands.proofs.summary.counts_text.Goals as goal
+use Rattle.sq_commands.specs.Summary.{other_formats, part}
+use Rattle.sq_commands.proofs.Summaries.{counts_pushed}
+use Rattle.sq_commands.proofs.summary.push_counts.Goals as goal
 
 pub returns-clause-bytes : goal.returns-clause-bytes
-unfolding counts_text
 returns-clause-bytes c =
     let tally = c.args.counts.now in
     let more : List ℕ → List ℕ → ℕ → List ℕ = λ name front count. front ++ part count name in
-    let one = c.push_decimal.ensures.bytes ∙ ap₂ (λ (l : List ℕ) (n : ℕ). l ++ decimal n) c.new-text.ensures
-    c.written.ensures in
+    let one = c.push_decimal.ensures.bytes
+    ∙ ap (λ n. c.args.text.now.bytes ++ decimal n) c.written.ensures in
     let two = c.push_str.ensures.bytes ∙ ap (λ l. l ++ codes " written") one in
     let three = c.push_others.ensures.bytes ∙ ap (λ l. l ++ other_formats tally.formats) two in
     let four = c.push_part.ensures.bytes ∙ ap₂ (more (codes " of Mode A/C")) three c.mode_ac.ensures in
@@ -18,7 +17,4 @@ returns-clause-bytes c =
     let six = c.push_part-3.ensures.bytes ∙ ap₂ (more (codes " receiver ids")) five c.receiver_ids.ensures in
     let seven = c.push_part-4.ensures.bytes ∙ ap₂ (more (codes " set aside")) six c.aside.ensures in
     let eight = c.push_part-5.ensures.bytes ∙ ap₂ (more (codes " damaged")) seven c.damaged.ensures in
-    eight ∙ eight_texts (decimal tally.written) (codes " written") (other_formats tally.formats)
-    (part tally.mode_ac (codes " of Mode A/C")) (part tally.multilaterated (codes " multilaterated"))
-    (part tally.receiver_ids (codes " receiver ids")) (part tally.aside (codes " set aside"))
-    (part tally.damaged (codes " damaged"))
+    eight ∙ counts_pushed c.args.text.now.bytes tally
