@@ -6,7 +6,7 @@ use Rattle.std.proofs.lemmas.List.{drop-set-lt, take_more, take_more_set}
 use Rattle.sq_feed.specs.declared.message.Timed.{Timed}
 use Rattle.squitter_c.specs.FeedCalls.{squitters_of}
 
-squitters-append : (ms ns : List ℕ) (fs gs : List (List ℕ)) → length ms ≡ length fs
+pub squitters-append : (ms ns : List ℕ) (fs gs : List (List ℕ)) → length ms ≡ length fs
     → squitters_of (ms ++ ns) (fs ++ gs) ≡ squitters_of ms fs ++ squitters_of ns gs
 squitters-append [] ns [] gs long = refl
 squitters-append [] ns (f ∷ fs) gs long = absurd (omega (arith, long))

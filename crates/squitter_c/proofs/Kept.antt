@@ -1,4 +1,4 @@
--- The ways in which a seal holds a listener, a feed and an order.
+-- The ways in which a seal holds a listener, a feed and a sorter.
 use Rattle.std.proofs.Common.{◌≡◌, refl, Option, Some, None, ap}
 use Rattle.std.proofs.lemmas.Option.{none-some, same_Some}
 use mathlib.Core.Logic.{inl, inr}
@@ -6,12 +6,12 @@ use denote.RawPtr.{Ptr}
 use Rattle.std.specs.Box.Ownership.{box_owns}
 use Rattle.sq_feed.specs.contracts.feed.Feed as Feed
 use Rattle.sq_feed.proofs.feed.Feed.TheLaws as feed
-use Rattle.sq_feed.specs.contracts.order.Order as Order
-use Rattle.sq_feed.proofs.order.Order.TheLaws as order
 use Rattle.squitter_c.specs.contracts.listener.Listener as Listener
 use Rattle.squitter_c.proofs.listener.Listener.TheLaws as listener
-use Rattle.squitter_c.specs.Seal.{Content, Kept, KeptFeed, KeptOrder, a_feed, a_listener, an_order, feed_of}
-use Rattle.squitter_c.specs.Seal.{listener_of, may_free, order_of, seal_owns}
+use Rattle.squitter_c.specs.contracts.order_slot.Sorter as Sorter
+use Rattle.squitter_c.proofs.order_slot.Sorter.TheLaws as sorter
+use Rattle.squitter_c.specs.Seal.{Content, Kept, KeptFeed, KeptSorter, a_feed, a_listener, a_sorter, feed_of}
+use Rattle.squitter_c.specs.Seal.{listener_of, may_free, sorter_of, seal_owns}
 use Rattle.squitter_c.proofs.Sealing.{Kind}
 
 pub listener_owned : (p : Ptr) (h : Option Content) (x : Kept) → listener_of h ≡ Some x
@@ -47,19 +47,19 @@ of_feeds = record {
   same = λ x. refl;
 }
 
-pub order_owned : (p : Ptr) (h : Option Content) (x : KeptOrder) → order_of h ≡ Some x
-    → seal_owns p h ≡ box_owns may_free Order.the_row p x
-order_owned p (Some (inl y)) x e = absurd (none-some x e)
-order_owned p (Some (inr (inl y))) x e = absurd (none-some x e)
-order_owned p (Some (inr (inr y))) x e = ap (box_owns may_free Order.the_row p) (same_Some y x e)
-order_owned p None x e = absurd (none-some x e)
+pub sorter_owned : (p : Ptr) (h : Option Content) (x : KeptSorter) → sorter_of h ≡ Some x
+    → seal_owns p h ≡ box_owns may_free Sorter.the_row p x
+sorter_owned p (Some (inl y)) x e = absurd (none-some x e)
+sorter_owned p (Some (inr (inl y))) x e = absurd (none-some x e)
+sorter_owned p (Some (inr (inr y))) x e = ap (box_owns may_free Sorter.the_row p) (same_Some y x e)
+sorter_owned p None x e = absurd (none-some x e)
 
-abbrev pub of_orders : Kind
-of_orders = record {
-  row = Order.the_row;
-  laws = order.the_row_laws;
-  held = an_order;
-  found = order_of;
-  owned = order_owned;
+abbrev pub of_sorters : Kind
+of_sorters = record {
+  row = Sorter.the_row;
+  laws = sorter.the_row_laws;
+  held = a_sorter;
+  found = sorter_of;
+  owned = sorter_owned;
   same = λ x. refl;
 }

@@ -24,5 +24,7 @@ pub mod LogSteps
 pub mod LogGoing
 pub mod LogAll
 pub mod Columns
+pub mod Halves
 pub mod FeedSteps
 pub mod OrderSteps
+mod Watching

@@ -1,11 +1,11 @@
 -- Calls of a feed.
-use Rattle.std.specs.Prelude.{◌≡◌, ◌==◌, ◌≤◌, ◌<◌, ◌+◌, ◌/◌, ◌%◌, ◌⊎◌, ℕ, List, [], ◌∷◌, Option, None, Some, drop, length, take}
+use Rattle.std.specs.Prelude.{◌≡◌, ◌==◌, ◌≤◌, ◌<◌, ◌+◌, ◌/◌, ◌%◌, ◌⊎◌, ℕ, Bool, true, List, [], ◌∷◌, Option, None, Some, drop, length, take}
 use Rattle.sq_feed.specs.declared.machine.Format.{Format}
 use Rattle.sq_feed.specs.declared.machine.Format.TheVariants as formats
 use Rattle.sq_feed.specs.declared.manner.Manner.{Manner}
 use Rattle.sq_feed.specs.Counts.{Tally}
-use Rattle.sq_feed.specs.Feeds.{Feeding, HasClosedFeed, HasLost, HasTold, format_of_source, lines_of, nothing_fed}
-use Rattle.sq_feed.specs.Readers.{calls_left}
+use Rattle.sq_feed.specs.Feeds.{Feeding, HasClosedFeed, HasLost, HasTold, HasToldLast, format_of_source, lines_of}
+use Rattle.sq_feed.specs.Feeds.{nothing_fed, steps_left}
 use Rattle.sq_feed.specs.declared.message.Stranger.{Stranger}
 use Rattle.sq_feed.specs.declared.message.Timed.{Timed}
 use Rattle.sq_feed.specs.declared.message.Stranger.TheVariants as strangers
@@ -72,16 +72,24 @@ pub record HasTakenFrames (arrival : ℕ) (old new : Feeding) (piece moments_wer
       (squitters_of (take done.written moments) (take done.written frames)) new
   pub some : 0 < length piece → 0 < length moments → 0 < length frames → (0 < done.taken) ⊎ (0 < done.written)
   pub all : done.written < length moments → done.written < length frames
-      → (done.taken ≡ length piece) × (calls_left new.reader ≡ 0)
+      → (done.taken ≡ length piece) × (steps_left new ≡ 0)
   pub moments_filled : IsFilled moments_were moments done.written
   pub frames_filled : IsFilled frames_were frames done.written
 
--- The source ended, and its last squitters were stored. If both arrays have room for one more, none waits.
+-- The source ended, and its last squitters were stored. If both arrays have room for one more, these are all, with
+-- those of rows that waited.
 pub record HasEndedInFrames (arrival : ℕ) (old new : Feeding) (moments_were moments : List ℕ)
     (frames_were frames : List (List ℕ)) (done : Done) : Type 0 where
   pub closed : Feeding
   pub ended : HasClosedFeed old closed
-  pub gives : HasTakenFrames arrival closed new [] moments_were moments frames_were frames done
+  pub taken : done.taken ≡ 0
+  pub settled : Bool
+  pub given : HasToldLast settled arrival closed
+      (squitters_of (take done.written moments) (take done.written frames)) new
+  pub all : done.written < length moments → done.written < length frames
+      → (settled ≡ true) × (steps_left new ≡ 0)
+  pub moments_filled : IsFilled moments_were moments done.written
+  pub frames_filled : IsFilled frames_were frames done.written
 
 -- the result of taking a piece, or the fault if there is no feed
 abbrev pub IsFeedTaken : (arrival : ℕ) → (old new : Option KeptFeed) → (piece moments_were moments : List ℕ)
@@ -113,14 +121,21 @@ pub record HasTakenText (arrival : ℕ) (old new : Feeding) (piece was is : List
   pub given : HasTold arrival old (take done.taken piece) told new
   pub written : take done.written is ≡ lines_of told
   pub some : 0 < length piece → 50 ≤ length is → (0 < done.taken) ⊎ (0 < done.written)
-  pub all : done.written + 50 ≤ length is → (done.taken ≡ length piece) × (calls_left new.reader ≡ 0)
+  pub all : done.written + 50 ≤ length is → (done.taken ≡ length piece) × (steps_left new ≡ 0)
   pub filled : IsFilled was is done.written
 
--- The source ended, and its last lines were written. If there is room for one more line, none waits.
+-- The source ended, and its last lines were written. If there is room for one more line, these are all, with those of
+-- rows that waited.
 pub record HasEndedInText (arrival : ℕ) (old new : Feeding) (was is : List ℕ) (done : Done) : Type 0 where
   pub closed : Feeding
   pub ended : HasClosedFeed old closed
-  pub gives : HasTakenText arrival closed new [] was is done
+  pub taken : done.taken ≡ 0
+  pub settled : Bool
+  pub told : List Timed
+  pub given : HasToldLast settled arrival closed told new
+  pub written : take done.written is ≡ lines_of told
+  pub all : done.written + 50 ≤ length is → (settled ≡ true) × (steps_left new ≡ 0)
+  pub filled : IsFilled was is done.written
 
 -- the result of taking a piece, or the fault if there is no feed
 abbrev pub IsFeedTextTaken : (arrival : ℕ) → (old new : Option KeptFeed) → (piece was is : List ℕ)

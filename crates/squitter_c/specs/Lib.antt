@@ -33,3 +33,4 @@ pub mod FeedCalls
 pub mod FeedLaws
 pub mod OrderCalls
 pub mod OrderLaws
+pub mod Units

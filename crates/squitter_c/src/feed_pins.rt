@@ -1,16 +1,18 @@
 //! Guards of the definitions: each has one value, some value or an exact condition, so none can be weakened unnoticed.
 //! A function with an empty body does nothing: its contract is the statement.
-ghost use Rattle.std.specs.Prelude.{◌≡◌, ◌↔◌, ◌≤◌, [], ◌∷◌, List, ℕ, Option, Some, None, drop, false, length, map};
-ghost use Rattle.std.specs.Prelude.{true};
+ghost use Rattle.std.specs.Prelude.{◌≡◌, ◌↔◌, ◌+◌, ◌≤◌, ◌<◌, [], ◌∷◌, Bool, List, ℕ, Option, Some, None, drop, false, length, map};
+ghost use Rattle.std.specs.Prelude.{take, true};
 ghost use Rattle.sq_feed.specs.Counts.{Tally};
-ghost use Rattle.sq_feed.specs.Feeds.{Feeding, HasClosedFeed, HasLost, format_of_source, nothing_fed};
+ghost use Rattle.sq_feed.specs.Feeds.{Feeding, HasClosedFeed, HasLost, HasToldLast, format_of_source, lines_of};
+ghost use Rattle.sq_feed.specs.Feeds.{nothing_fed, steps_left};
+ghost use Rattle.sq_feed.specs.declared.message.Timed.{Timed};
 ghost use Rattle.squitter_c.specs.declared.faults.Fault.{Fault};
 ghost use Rattle.squitter_c.specs.Faults.{none};
 ghost use Rattle.squitter_c.specs.Seal.{KeptFeed};
 ghost use Rattle.squitter_c.specs.declared.feed_new.PlainCounts.{PlainCounts};
 ghost use Rattle.squitter_c.specs.declared.log_take.Done.{Done};
-ghost use Rattle.squitter_c.specs.FeedCalls.{AreCounts, HasEndedInFrames, HasEndedInText, HasTakenFrames};
-ghost use Rattle.squitter_c.specs.FeedCalls.{HasTakenText, IsFeedCounted, IsFeedFinished, IsFeedFormat};
+ghost use Rattle.squitter_c.specs.FeedCalls.{AreCounts, HasEndedInFrames, HasEndedInText, squitters_of};
+ghost use Rattle.squitter_c.specs.FeedCalls.{IsFeedCounted, IsFeedFinished, IsFeedFormat};
 ghost use Rattle.squitter_c.specs.FeedCalls.{IsFeedLost, IsFeedMade, IsFeedTextFinished};
 ghost use Rattle.squitter_c.specs.FeedCalls.{IsFilled, IsSourceNumber, feed_number, manner_of, source_number};
 
@@ -48,11 +50,18 @@ pub fn ends_exactly()
     ensures arrays { (arrival : ℕ) (old new : Feeding) (moments_were moments : List ℕ)
         (frames_were frames : List (List ℕ)) (done : Done)
         → HasEndedInFrames arrival old new moments_were moments frames_were frames done ↔ ((closed : Feeding)
-        × HasClosedFeed old closed
-        × HasTakenFrames arrival closed new [] moments_were moments frames_were frames done) }
+        × HasClosedFeed old closed × (done.taken ≡ 0)
+        × ((settled : Bool)
+        × HasToldLast settled arrival closed (squitters_of (take done.written moments) (take done.written frames)) new
+        × (done.written < length moments → done.written < length frames
+        → (settled ≡ true) × (steps_left new ≡ 0))
+        × IsFilled moments_were moments done.written × IsFilled frames_were frames done.written)) }
     ensures text { (arrival : ℕ) (old new : Feeding) (was is : List ℕ) (done : Done)
         → HasEndedInText arrival old new was is done ↔ ((closed : Feeding) × HasClosedFeed old closed
-        × HasTakenText arrival closed new [] was is done) }
+        × (done.taken ≡ 0) × ((settled : Bool) × (told : List Timed) × HasToldLast settled arrival closed told new
+        × (take done.written is ≡ lines_of told)
+        × (done.written + 50 ≤ length is → (settled ≡ true) × (steps_left new ≡ 0))
+        × IsFilled was is done.written)) }
     ensures finished { (arrival : ℕ) (k : KeptFeed) (new : Option KeptFeed) (moments_were moments : List ℕ)
         (frames_were frames : List (List ℕ)) (before after : Done) (fault : Fault)
         → IsFeedFinished arrival (Some k) new moments_were moments frames_were frames before after fault

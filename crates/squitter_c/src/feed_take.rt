@@ -36,9 +36,10 @@ pub extern "C" fn squitter_feed_take(
     }
 }
 
-/// Ends the source, and stores its last squitters with their timestamps, as many as fit both arrays. `done` has the
+/// Ends the source, and stores its last squitters with their timestamps, as many as fit both arrays. Among them are
+/// those of rows that waited for others to confirm their times. `done` has the
 /// number stored. If both arrays have room for one more, these are all, and the next bytes are of another source.
-/// Otherwise the others come with further calls, which may have no bytes.
+/// Otherwise the others come with further calls of this.
 ///
 /// The fault is `NoTracker` if there is no feed; nothing is changed then.
 #[unsafe(no_mangle)]
@@ -93,5 +94,17 @@ fn finish_by(feed: &mut Feed, arrival: u64, moments: &mut [u64], frames: &mut [[
     ensures { HasEndedInFrames arrival feed.old feed.new moments.old moments.new frames.old frames.new result }
 {
     feed.close();
-    take_by(feed, b"", arrival, moments, frames)
+    let first = take_by(feed, b"", arrival, moments, frames);
+    if feed.goes_on(0) {
+        return first;
+    }
+    feed.settle();
+    let at = first.written;
+    let (_, more_moments) = moments.split_at_mut(at);
+    let (_, more_frames) = frames.split_at_mut(at);
+    let second = take_by(feed, b"", arrival, more_moments, more_frames);
+    Done {
+        taken: 0,
+        written: at + second.written,
+    }
 }

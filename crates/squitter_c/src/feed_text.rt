@@ -114,5 +114,16 @@ fn finish_by(feed: &mut Feed, arrival: u64, out: &mut [u8]) -> Done
     ensures { HasEndedInText arrival feed.old feed.new out.old out.new result }
 {
     feed.close();
-    take_by(feed, b"", arrival, out)
+    let first = take_by(feed, b"", arrival, out);
+    if feed.goes_on(0) {
+        return first;
+    }
+    feed.settle();
+    let at = first.written;
+    let (_, more) = out.split_at_mut(at);
+    let second = take_by(feed, b"", arrival, more);
+    Done {
+        taken: 0,
+        written: at + second.written,
+    }
 }

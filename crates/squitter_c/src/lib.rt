@@ -53,4 +53,5 @@ mod tracker_new;
 pub mod tracker_pins;
 mod tracker_restore;
 mod tracker_save;
+mod units;
 mod zones;

@@ -1,26 +1,26 @@
 //! Sorting squitters by timestamp: creating and freeing an order, and its input and output.
-ghost use Rattle.std.specs.Prelude.{◌≡◌, None};
+ghost use Rattle.std.specs.Prelude.{◌≡◌, ◌+◌, ◌*◌, ◌/◌, None};
 ghost use Rattle.squitter_c.specs.OrderCalls.{HasGivenHeld, HasTakenInOrder, IsOrderCounted, IsOrderFlushed};
-ghost use Rattle.squitter_c.specs.OrderCalls.{IsOrderMade, IsOrderTaken};
+ghost use Rattle.squitter_c.specs.OrderCalls.{IsOrderGrown, IsOrderMade, IsOrderTaken, held_count, late_count};
 ghost use Rattle.squitter_c.specs.Slots.{held_order};
 
 use crate::faults::{Fault, NONE, Reason};
 use crate::log_take::Done;
-use crate::order_slot::{ORDER_BYTES, OrderSlot, order_in};
+use crate::order_slot::{OrderSlot, bytes_for, moved_to, order_in};
 use sq_feed::{Order, Timed};
-use sq_lent::Room;
+use sq_lent::{Lent, Room};
 
-/// Returns the size of an order in bytes.
+/// Returns the size in bytes of a block for an order that holds up to `room` squitters.
 #[unsafe(no_mangle)]
-pub extern "C" fn squitter_order_size() -> usize
-    ensures { result ≡ 148480 }
+pub extern "C" fn squitter_order_size(room: u32) -> usize
+    ensures { result ≡ 512 + 24 * (room + room / 3 + 1) }
 {
-    ORDER_BYTES
+    bytes_for(room)
 }
 
 /// Creates an order that holds nothing. Squitters may come late by `reorder` milliseconds. The block belongs to the
-/// order until the order is freed. An existing order is freed first. The fault is `Memory` if the block is smaller
-/// than [`squitter_order_size`]; then there is no order.
+/// order until the order is freed; it holds as many squitters as the block has room for. An existing order is freed
+/// first. The fault is `Memory` if the block is smaller than [`squitter_order_size`] of 0; then there is no order.
 #[unsafe(no_mangle)]
 pub extern "C" fn squitter_order_new(order: &mut OrderSlot, block: Room, reorder: u64) -> Fault
     ensures { IsOrderMade reorder block.size (held_order order.new) result }
@@ -35,6 +35,29 @@ pub extern "C" fn squitter_order_new(order: &mut OrderSlot, block: Room, reorder
     }
 }
 
+/// Moves the order to another block, with room for more. Its old block is the caller's again.
+///
+/// The faults are, in this order: `NoTracker` if there is no order; `Memory` if the block has no room for the
+/// squitters that are held. After a fault the order stays where it is.
+#[unsafe(no_mangle)]
+pub extern "C" fn squitter_order_grow(order: &mut OrderSlot, block: Room) -> Fault
+    ensures { IsOrderGrown (held_order order.old) (held_order order.new) result }
+{
+    match order.take() {
+        Some(taken) => match moved_to(&taken, block) {
+            Some(moved) => {
+                order.put(moved);
+                NONE
+            }
+            None => {
+                order.put(taken);
+                Fault::of(Reason::Memory)
+            }
+        },
+        None => Fault::of(Reason::NoTracker),
+    }
+}
+
 /// Frees the order. Its block is the caller's again. Safe to call twice, and on an order that was never created.
 #[unsafe(no_mangle)]
 pub extern "C" fn squitter_order_free(order: &mut OrderSlot)
@@ -44,10 +67,11 @@ pub extern "C" fn squitter_order_free(order: &mut OrderSlot)
 }
 
 /// Takes squitters, by their timestamps (ms) and frames, and stores those that are due in the order of time, as many as
-/// fit both arrays. `done` has the number of squitters taken, and of those stored. If both arrays have room for one
-/// more, all were taken, and none is due.
+/// fit both arrays. `done` has the number of squitters taken, and of those stored. After code 0, if both arrays have
+/// room for one more, all were taken, and none is due. Late squitters are taken, and counted.
 ///
-/// The fault is `NoTracker` if there is no order; nothing is changed then.
+/// The faults are `NoTracker` if there is no order, and nothing is changed then; `Memory` if the order is full, and
+/// the next squitter was not taken.
 #[unsafe(no_mangle)]
 pub extern "C" fn squitter_order_take(
     order: &mut OrderSlot,
@@ -62,9 +86,20 @@ pub extern "C" fn squitter_order_take(
 {
     match order.take() {
         Some(mut taken) => {
-            *done = take_by(&mut taken, moments, frames, out_moments, out_frames);
+            let (progress, is_full) = take_by(
+                &mut taken.order,
+                moments,
+                frames,
+                out_moments,
+                out_frames,
+            );
+            *done = progress;
             order.put(taken);
-            NONE
+            if is_full {
+                Fault::of(Reason::Memory)
+            } else {
+                NONE
+            }
         }
         None => Fault::of(Reason::NoTracker),
     }
@@ -86,7 +121,7 @@ pub extern "C" fn squitter_order_flush(
 {
     match order.take() {
         Some(mut taken) => {
-            *done = flush_by(&mut taken, out_moments, out_frames);
+            *done = flush_by(&mut taken.order, out_moments, out_frames);
             order.put(taken);
             NONE
         }
@@ -94,15 +129,15 @@ pub extern "C" fn squitter_order_flush(
     }
 }
 
-/// Writes how many squitters are held: at most 4096. The fault is `NoTracker` if there is no order.
+/// Writes how many squitters are held. The fault is `NoTracker` if there is no order.
 #[unsafe(no_mangle)]
 pub extern "C" fn squitter_order_held(order: &mut OrderSlot, out: &mut u64) -> Fault
-    ensures counted { IsOrderCounted (held_order order.old) out.old out.new result }
+    ensures counted { IsOrderCounted held_count (held_order order.old) out.old out.new result }
     ensures same { held_order order.new ≡ held_order order.old }
 {
     match order.take() {
         Some(taken) => {
-            let held = taken.held();
+            let held = taken.order.held();
             order.put(taken);
             *out = held as u64;
             NONE
@@ -111,16 +146,34 @@ pub extern "C" fn squitter_order_held(order: &mut OrderSlot, out: &mut u64) -> F
     }
 }
 
-// Takes squitters.
+/// Writes how many squitters were late, and were dropped: up to 2^64 - 1. The fault is `NoTracker` if there is no
+/// order.
+#[unsafe(no_mangle)]
+pub extern "C" fn squitter_order_late(order: &mut OrderSlot, out: &mut u64) -> Fault
+    ensures counted { IsOrderCounted late_count (held_order order.old) out.old out.new result }
+    ensures same { held_order order.new ≡ held_order order.old }
+{
+    match order.take() {
+        Some(taken) => {
+            let late = taken.order.late();
+            order.put(taken);
+            *out = late;
+            NONE
+        }
+        None => Fault::of(Reason::NoTracker),
+    }
+}
+
+// Takes squitters. Returns whether the order is full.
 fn take_by(
-    order: &mut Order,
+    order: &mut Order<&'static Lent>,
     moments: &[u64],
     frames: &[[u8; 14]],
     out_moments: &mut [u64],
     out_frames: &mut [[u8; 14]],
-) -> Done
+) -> (Done, bool)
     ensures { HasTakenInOrder order.old order.new moments.now frames.now out_moments.old out_moments.new out_frames.old
-        out_frames.new result }
+        out_frames.new result.0 result.1 }
 {
     let count = moments.len().min(frames.len());
     let room = out_moments.len().min(out_frames.len());
@@ -134,18 +187,25 @@ fn take_by(
             written += 1;
         } else {
             let frame = frames[taken];
-            order.put(&Timed {
+            let one = Timed {
                 moment: moments[taken],
                 frame,
-            });
-            taken += 1;
+            };
+            match order.put(&one) {
+                Ok(()) => taken += 1,
+                Err(_) => return (Done { taken, written }, true),
+            }
         }
     }
-    Done { taken, written }
+    (Done { taken, written }, false)
 }
 
 // Stores the squitters that are held.
-fn flush_by(order: &mut Order, out_moments: &mut [u64], out_frames: &mut [[u8; 14]]) -> Done
+fn flush_by(
+    order: &mut Order<&'static Lent>,
+    out_moments: &mut [u64],
+    out_frames: &mut [[u8; 14]],
+) -> Done
     ensures { HasGivenHeld order.old order.new out_moments.old out_moments.new out_frames.old out_frames.new result }
 {
     let room = out_moments.len().min(out_frames.len());

@@ -1,12 +1,13 @@
 //! A boxed value, or none, behind a pointer that names no type.
 ghost use Rattle.std.specs.Prelude.{◌≡◌, IsSome, Option, Some, None};
 ghost use Rattle.std.specs.Coded.{coded_option};
-ghost use Rattle.squitter_c.specs.Seal.{Content, a_feed, a_listener, an_order, content_coded, feed_of, listener_of};
-ghost use Rattle.squitter_c.specs.Seal.{order_of, seal_owns};
+ghost use Rattle.squitter_c.specs.Seal.{Content, a_feed, a_listener, a_sorter, content_coded, feed_of, listener_of};
+ghost use Rattle.squitter_c.specs.Seal.{sorter_of, seal_owns};
 
 use crate::listener::Listener;
+use crate::order_slot::Sorter;
 use crate::parts::Parts;
-use sq_feed::{Feed, Order};
+use sq_feed::Feed;
 use sq_lent::Lent;
 use std::marker::Model;
 
@@ -80,23 +81,23 @@ impl Seal {
         }
     }
 
-    /// Seals what the parts of a boxed order own, and returns the allocator.
-    pub fn of_order(parts: Parts<Order, Lent>) -> (Seal, Lent)
-        ensures { result.0.held ≡ Some (an_order parts.value) }
+    /// Seals what the parts of a boxed sorter own, and returns the allocator.
+    pub fn of_sorter(parts: Parts<Sorter, Lent>) -> (Seal, Lent)
+        ensures { result.0.held ≡ Some (a_sorter parts.value) }
     {
         let Parts { ptr, alloc } = parts;
-        let order = ptr as *mut u8;
-        (Seal { at: order }, alloc)
+        let sorter = ptr as *mut u8;
+        (Seal { at: sorter }, alloc)
     }
 
-    /// Opens a seal that holds an order. The parts own it again, with any allocator.
-    pub fn into_order(self, alloc: Lent) -> Parts<Order, Lent>
-        requires { IsSome (order_of self.held) }
-        ensures { Some result.value ≡ order_of self.held }
+    /// Opens a seal that holds a sorter. The parts own it again, with any allocator.
+    pub fn into_sorter(self, alloc: Lent) -> Parts<Sorter, Lent>
+        requires { IsSome (sorter_of self.held) }
+        ensures { Some result.value ≡ sorter_of self.held }
     {
         let Seal { at } = self;
         Parts {
-            ptr: at as *mut Order,
+            ptr: at as *mut Sorter,
             alloc,
         }
     }

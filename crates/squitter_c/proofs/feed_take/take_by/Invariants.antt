@@ -1,6 +1,5 @@
 use Rattle.std.proofs.Common.{◌≡◌, ◌≤◌, ◌+◌, ◌-◌, drop, length, take}
-use Rattle.sq_feed.specs.Feeds.{HasTold}
-use Rattle.sq_feed.specs.Readers.{calls_for, calls_left}
+use Rattle.sq_feed.specs.Feeds.{HasTold, steps_for, steps_left}
 use Rattle.squitter_c.specs.FeedCalls.{squitters_of}
 use Rattle.squitter_c.proofs.feed_take.take_by.Given as goal
 
@@ -16,4 +15,4 @@ invariant-loop-slot l = record {
 }
 
 abbrev pub decreases-loop-slot : goal.decreases-loop-slot
-decreases-loop-slot l = calls_left l.feed.reader + calls_for (length l.piece - l.taken)
+decreases-loop-slot l = steps_left l.feed + steps_for (length l.piece - l.taken)

@@ -1,8 +1,7 @@
 use Rattle.std.proofs.Common.{◌≡◌, ◌≤◌, ◌+◌, ◌-◌, ◌++◌, List, drop, length, take}
 use Rattle.sq_digits.specs.Buffer.{text_len}
 use Rattle.sq_feed.specs.declared.message.Timed.{Timed}
-use Rattle.sq_feed.specs.Feeds.{HasTold, lines_of}
-use Rattle.sq_feed.specs.Readers.{calls_for, calls_left}
+use Rattle.sq_feed.specs.Feeds.{HasTold, lines_of, steps_for, steps_left}
 use Rattle.squitter_c.proofs.feed_text.take_by.Given as goal
 
 abbrev pub invariant-loop-lines : goal.invariant-loop-lines
@@ -16,4 +15,4 @@ invariant-loop-lines l = record {
 }
 
 abbrev pub decreases-loop-lines : goal.decreases-loop-lines
-decreases-loop-lines l = calls_left l.feed.reader + calls_for (length l.piece - l.taken)
+decreases-loop-lines l = steps_left l.feed + steps_for (length l.piece - l.taken)

@@ -20,9 +20,9 @@ loop-written-preserved-then-give_into c =
     record {
       taken = l.invariant.taken;
       few = omega (arith, c.loop-written-test.true);
-      given = subst (λ t. HasSorted 4096 c.args.order.now came t c.give_into.new.self)
+      given = subst (λ t. HasSorted c.args.order.now came t c.give_into.new.self)
           (sym (squitters_set l.out_moments l.out_frames l.written slot fits fit))
-          (sorted_give 4096 c.args.order.now l.order c.give_into.new.self came _ slot l.invariant.given
+          (sorted_give c.args.order.now l.order c.give_into.new.self came _ slot l.invariant.given
           (sym c.if-give_into.ensures.due) c.if-give_into.ensures.given);
       rest = (
         rest_set l.out_moments c.args.out_moments.now l.written slot.moment l.invariant.rest.0,
@@ -51,15 +51,15 @@ loop-written-preserved c =
     let fits : l.taken < length ms = omega (arith, more, c.min-count.ensures) in
     let fit : l.taken < length fs = omega (arith, more, c.min-count.ensures) in
     let same : c.put.new.self ≡ with_one one l.order =
-    c.put.ensures ∙ ap (with_one one) (flushed_none l.order c.give_into.new.self c.if-give_into.ensures.given) in
+    c.in-Ok.ensures.ok ∙ ap (with_one one) (flushed_none l.order c.give_into.new.self c.if-give_into.ensures.given) in
     record {
       taken = omega (arith, more);
       few = l.invariant.few;
-      given = subst (λ s. HasSorted 4096 c.args.order.now
+      given = subst (λ s. HasSorted c.args.order.now
           (squitters_of (take (l.taken + 1) ms) (take (l.taken + 1) fs)) given s) (sym same)
-          (subst (λ xs. HasSorted 4096 c.args.order.now xs given (with_one one l.order))
+          (subst (λ xs. HasSorted c.args.order.now xs given (with_one one l.order))
           (sym (squitters_more ms fs l.taken 0 [] fits fit))
-          (sorted_put 4096 c.args.order.now l.order came given one l.invariant.given
+          (sorted_put c.args.order.now l.order came given one l.invariant.given
           (sym c.if-give_into.ensures.due)));
       rest = l.invariant.rest;
       long = l.invariant.long;

@@ -7,7 +7,7 @@ abbrev pub invariant-loop-written : goal.invariant-loop-written
 invariant-loop-written l = record {
   taken : l.taken ≤ l.count;
   few : l.written ≤ l.room;
-  given : HasSorted 4096 l.initial.order (squitters_of (take l.taken l.moments) (take l.taken l.frames))
+  given : HasSorted l.initial.order (squitters_of (take l.taken l.moments) (take l.taken l.frames))
       (squitters_of (take l.written l.out_moments) (take l.written l.out_frames)) l.order;
   rest : (drop l.written l.out_moments ≡ drop l.written l.initial.out_moments)
       × (drop l.written l.out_frames ≡ drop l.written l.initial.out_frames);

@@ -1,9 +1,0 @@
-use denote.Exit.{yes}
-use Rattle.squitter_c.proofs.Kept.{of_orders}
-use Rattle.squitter_c.proofs.Sealing.{seals_spec}
-use Rattle.squitter_c.specs.contracts.seal.Seal.of_order.Key.{name as #self}
-use Rattle.squitter_c.proofs.seal.Seal.of_order.Statement.{statement}
-use Rattle.squitter_c.proofs.seal.Seal.of_order.Code as code
-
-pub of_order_spec : {M : Type 1} → statement M
-of_order_spec 𝓤 𝓛 𝓜 𝓡 wired = seals_spec of_orders yes 𝓛 𝓜 𝓡 #self (code.unfolded 𝓤 𝓛.H 𝓜 𝓡 wired)
