@@ -309,7 +309,8 @@ typedef struct squitter_order {
   void *at;
 } squitter_order;
 
-/* Counts of the items of a source. `found` is the sum of all other counts; at 2^64 - 1 all counts stop. With
+/* Counts of the items of a source. `found` is the sum of all other counts; at 2^64 - 1 all counts stop. A row that waits
+ * for others to confirm its time is counted when that is decided. With
  * SQUITTER_FEED_ALL_FORMATS, `written` counts frames of all downlink formats, and `formats` none of these. */
 typedef struct squitter_counts {
   uint64_t found;
@@ -511,6 +512,16 @@ enum {
   SQUITTER_FEED_NO_FRAME = 10 /* bytes without frames */
 };
 
+/* What timestamps seem to be. */
+enum {
+  SQUITTER_UNIT_MILLISECONDS = 0, /* or too few show it */
+  SQUITTER_UNIT_SECONDS = 1,
+  SQUITTER_UNIT_MICROSECONDS = 2,
+  SQUITTER_UNIT_NANOSECONDS = 3,
+  SQUITTER_UNIT_ALL_ZERO = 4,     /* several frames, all with the timestamp 0 */
+  SQUITTER_UNIT_GPS = 5           /* a receiver's clock that counts GPS time, and not 12 MHz */
+};
+
 /* How a feed hears its source: a sum of these flags. */
 enum {
   SQUITTER_FEED_LIVE = 1,        /* arrivals say when the bytes were received; otherwise they have no effect */
@@ -527,8 +538,10 @@ size_t squitter_feed_size(void) SQUITTER_PURE;
  * start of a Beast message, or two messages in a row after other bytes; a line of a log, a row of a table or its
  * header; a frame at the start of a line of AVR text. The first byte that shows a format decides, however the source is
  * cut into pieces. The whole source is then read in that format, from its first byte on. A source that shows none in
- * its first 16384 bytes has no frames. A gap above `leap` milliseconds is a jump of the source's clock. A timestamp may
- * be before the latest one by `late` milliseconds; with 0, timestamps never go back. `flags` is a sum of
+ * its first 16384 bytes has no frames. A gap above `leap` milliseconds is a jump of the source's clock; without
+ * SQUITTER_FEED_LIVE, a receiver's clock may also go ahead by a day. A timestamp may be before the latest one by `late`
+ * milliseconds; with 0, timestamps never go back. Rows of a log or a table wait until others confirm their times: the
+ * first row, and up to two that jump. They come with later calls, at the latest with the end. `flags` is a sum of
  * SQUITTER_FEED_LIVE, SQUITTER_FEED_BY_ARRIVAL and SQUITTER_FEED_ALL_FORMATS; its other bits are ignored. For a live
  * source, `arrival` is the time (ms) when the bytes were received. A frame without a clock is as much later than the
  * one before it as their arrivals are apart. An existing feed is freed first. After a fault there is no feed, and the
@@ -551,9 +564,9 @@ squitter_fault squitter_feed_take(squitter_feed *SQUITTER_RESTRICT feed, const c
                                   uint8_t (*SQUITTER_RESTRICT frames)[14], size_t frames_count,
                                   squitter_done *SQUITTER_RESTRICT done) SQUITTER_CALL;
 
-/* Ends the source, and writes its last squitters, as many as fit both arrays. If done->written is below both array
- * lengths, these are all. Otherwise the others come with further calls of squitter_feed_take, which may have no bytes.
- * The next bytes belong to another source. Fault: NO_TRACKER. */
+/* Ends the source, and writes its last squitters, as many as fit both arrays. Rows that wait are decided: they are
+ * written, or counted as set aside. If done->written is below both array lengths, these are all, and the next bytes
+ * belong to another source. Otherwise call again. Fault: NO_TRACKER. */
 squitter_fault squitter_feed_finish(squitter_feed *SQUITTER_RESTRICT feed, uint64_t arrival,
                                     uint64_t *SQUITTER_RESTRICT moments, size_t moments_count,
                                     uint8_t (*SQUITTER_RESTRICT frames)[14], size_t frames_count,
@@ -567,13 +580,14 @@ squitter_fault squitter_feed_take_text(squitter_feed *SQUITTER_RESTRICT feed, co
                                        squitter_done *SQUITTER_RESTRICT done) SQUITTER_CALL;
 
 /* Like squitter_feed_finish, but writes the squitters as lines. If done->written + 50 <= out_count, these are all.
- * Fault: NO_TRACKER. */
+ * Otherwise call again. Fault: NO_TRACKER. */
 squitter_fault squitter_feed_finish_text(squitter_feed *SQUITTER_RESTRICT feed, uint64_t arrival,
                                          char *SQUITTER_RESTRICT out, size_t out_count,
                                          squitter_done *SQUITTER_RESTRICT done) SQUITTER_CALL;
 
-/* Drops an unfinished frame after a lost connection, and counts it as damaged. The next bytes belong to a new
- * connection: its clock starts afresh, and timestamps do not go back. Fault: NO_TRACKER. */
+/* Drops an unfinished frame after a lost connection, and counts it as damaged. Rows that wait are decided; those that
+ * get timestamps come with the next call. The next bytes belong to a new connection: its clock starts afresh, and
+ * timestamps do not go back. Fault: NO_TRACKER. */
 squitter_fault squitter_feed_disconnected(squitter_feed *feed) SQUITTER_CALL;
 
 /* Writes what the source is: its format (0 to 3), 5 to 10 for a source without frames, or SQUITTER_FEED_AUTO while this
@@ -585,24 +599,38 @@ squitter_fault squitter_feed_format(squitter_feed *SQUITTER_RESTRICT feed,
 squitter_fault squitter_feed_counts(squitter_feed *SQUITTER_RESTRICT feed,
                                     squitter_counts *SQUITTER_RESTRICT out) SQUITTER_CALL;
 
+/* Returns what timestamps (ms) seem to be, by the gaps between those of an aircraft: one of the numbers above. Element
+ * k of both arrays belongs to one squitter. The shorter length counts, and the first 16,384 elements. `clocked` is not
+ * 0 if a receiver's clock gave the timestamps: then only GPS time and zeros are told. */
+uint32_t squitter_unit_of(const uint64_t *moments, size_t moments_count, const uint32_t *addresses,
+                          size_t addresses_count, uint8_t clocked) SQUITTER_CALL;
+
 /* ---- An order ---- */
 
-/* Returns the size in bytes of the block for an order. */
-size_t squitter_order_size(void) SQUITTER_PURE;
+/* Returns the size in bytes of the block for an order that holds up to `room` squitters. */
+size_t squitter_order_size(uint32_t room) SQUITTER_PURE;
 
-/* Creates an order in the block. It holds each squitter until one has come that is `reorder` milliseconds later. Once
- * it holds 4096, it gives the earliest. An existing order is freed first. After a fault there is no order, and the
- * block is the caller's. Fault: NO_MEMORY (the block is smaller than squitter_order_size returns). */
+/* Creates an order in the block. It holds each squitter until one has come that is `reorder` milliseconds later, and as
+ * many as the block has room for. An existing order is freed first. After a fault there is no order, and the block is
+ * the caller's. Fault: NO_MEMORY (the block is smaller than squitter_order_size(0)). */
 squitter_fault squitter_order_new(squitter_order *order, squitter_block block, uint64_t reorder) SQUITTER_CALL;
+
+/* Moves the order to another block, with room for more. Its old block is the caller's again. After a fault the order
+ * stays in its old block. Faults: NO_TRACKER; NO_MEMORY (the block has no room for the squitters that are held). */
+squitter_fault squitter_order_grow(squitter_order *order, squitter_block block) SQUITTER_CALL;
 
 /* Frees the order; its block is the caller's again. Safe to call twice, and on an order that was never created. */
 void squitter_order_free(squitter_order *order) SQUITTER_WRITE;
 
 /* Takes squitters, by their timestamps (ms) and frames, in the order of arrival. Writes those that are due, in the
- * order of their timestamps, as many as fit both output arrays. Equal timestamps keep the order of arrival. A squitter
- * that is late by more than `reorder` is written at once. done->taken counts the squitters that were taken,
- * done->written those that were written. If done->written is below both output lengths, all were taken. Otherwise call
- * again with the squitters that were not taken. Fault: NO_TRACKER if there is no order; nothing is changed then. */
+ * order of their timestamps, as many as fit both output arrays. Equal timestamps keep the order of arrival. The
+ * timestamps of all calls never go back: a squitter below the last one that was written is late, and is dropped and
+ * counted. done->taken counts the squitters that were taken, late ones too; done->written those that were written. If
+ * the code is OK and done->written is below both output lengths, all were taken. Otherwise call again with the
+ * squitters that were not taken.
+ * Faults: NO_TRACKER if there is no order; nothing is changed then. NO_MEMORY if the order is full: *done is written,
+ * and the next squitter was not taken. squitter_order_grow makes room; so does squitter_order_flush with short arrays,
+ * but squitters below those that it writes are late from then on. */
 squitter_fault squitter_order_take(squitter_order *SQUITTER_RESTRICT order, const uint64_t *moments,
                                    size_t moments_count, const uint8_t (*frames)[14], size_t frames_count,
                                    uint64_t *SQUITTER_RESTRICT out_moments, size_t out_moments_count,
@@ -616,8 +644,12 @@ squitter_fault squitter_order_flush(squitter_order *SQUITTER_RESTRICT order, uin
                                     size_t out_moments_count, uint8_t (*SQUITTER_RESTRICT out_frames)[14],
                                     size_t out_frames_count, squitter_done *SQUITTER_RESTRICT done) SQUITTER_CALL;
 
-/* Writes how many squitters are held: at most 4096. Fault: NO_TRACKER. */
+/* Writes how many squitters are held. Fault: NO_TRACKER. */
 squitter_fault squitter_order_held(squitter_order *SQUITTER_RESTRICT order,
+                                   uint64_t *SQUITTER_RESTRICT out) SQUITTER_CALL;
+
+/* Writes how many squitters were late; at 2^64 - 1 the count stops. Fault: NO_TRACKER. */
+squitter_fault squitter_order_late(squitter_order *SQUITTER_RESTRICT order,
                                    uint64_t *SQUITTER_RESTRICT out) SQUITTER_CALL;
 
 /* ---- Arrays ---- */

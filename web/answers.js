@@ -3,6 +3,18 @@
 
 /** @typedef {Answers & {first: number}} Chunk  some results, with the number of results before them */
 
+/** What the page says of timestamps that are no milliseconds. */
+const UNIT_TEXTS = {
+  [Unit.SECONDS]: "The timestamps of this log seem to be seconds; they have to be milliseconds.",
+  [Unit.MICROSECONDS]: "The timestamps seem to be microseconds; a log has milliseconds, and a table has seconds.",
+  [Unit.NANOSECONDS]: "The timestamps seem to be nanoseconds; a log has milliseconds, and a table has seconds.",
+  [Unit.ALL_ZERO]: "All frames of this file have the timestamp 0, as without times: old ones pair with new.",
+  [Unit.GPS]: "The clock of this source seems to be GPS time (Radarcape): set it to 12 MHz.",
+};
+
+/** The number of results that show the unit of their timestamps. */
+const WATCHED = 1 << 14;
+
 const HEARD = ["refused", "fix", "followed", "waiting", "split", "far", "no site", "no position"];
 
 /** The results of a log so far, and those that pass the filter. */
@@ -49,6 +61,22 @@ class LogAnswers {
     if (first < 0) return;
     this.isTimed = true;
     this.clock = new LogClock(moments[first]);
+  }
+
+  /** Returns what the timestamps seem to be if they are not milliseconds, or "". @param {boolean} clocked */
+  unitText(clocked) {
+    /** @type {bigint[]} */
+    const times = [];
+    /** @type {number[]} */
+    const aircraft = [];
+    for (const { whats, moments, addresses } of this.chunks) {
+      for (let at = 0; at < whats.length && times.length < WATCHED; at++) {
+        if (!whats[at]) continue;
+        times.push(moments[at]);
+        aircraft.push(addresses[at]);
+      }
+    }
+    return UNIT_TEXTS[this.library.unitOf(times, aircraft, clocked)] ?? "";
   }
 
   /** @param {Chunk} chunk */

@@ -36,10 +36,9 @@ function squitterTextKind(first) {
  * Text without times counts as a log too: there each line is refused, while a feed would give all its frames one
  * time. */
 function squitterFeedOf({ Feed, FeedFormat, Stranger }, library, first) {
-  // The first squitter may come later, so frames of all formats count. Mode A/C gives no lines.
-  const trial = new Feed(library, { allFormats: true }), lines = trial.takeText(first), { format } = trial;
-  const isTimed = /^[1-9]/m.test(lines) || (format === FeedFormat.BEAST && !lines);
-  trial.finishText();
+  // The first squitter may come later, so frames of all formats count. Mode A/C gives no lines, and rows may wait.
+  const trial = new Feed(library, { allFormats: true }), taken = trial.takeText(first), { format } = trial;
+  const lines = taken + trial.finishText(), isTimed = /^[1-9]/m.test(lines) || (format === FeedFormat.BEAST && !lines);
   const { stranger } = trial;
   trial.close();
   const kind = {
@@ -51,7 +50,7 @@ function squitterFeedOf({ Feed, FeedFormat, Stranger }, library, first) {
   }[stranger] ?? (format === null ? squitterTextKind(first) : "");
   if (format === null || format === FeedFormat.LOG) return { feed: null, kind };
   if (!isTimed && format === FeedFormat.BEAST) throw new Error("its frames have no times");
-  return { feed: isTimed ? new Feed(library) : null, kind };
+  return { feed: isTimed ? new Feed(library) : null, kind, clocked: isTimed && format !== FeedFormat.CSV };
 }
 
 /** The worker of a log, or of a receiver's bytes (Beast, AVR with times, CSV), which it turns into a log first. It
@@ -69,17 +68,17 @@ function squitterHearingWorker() {
       const log = new squitter.Log(library, settings);
       const hear = (piece) => isText ? postMessage({ text: log.takeText(piece, format) }) : tell(log.take(piece));
       if (isText) postMessage({ text: log.header(format) });
-      let feed = null, kind = "";
+      let feed = null, kind = "", clocked = false;
       for (let from = 0; from < file.size; from += PIECE_BYTES) {
         const piece = await pieceOf(file, from);
-        if (from === 0) ({ feed, kind } = squitterFeedOf(squitter, library, piece));
+        if (from === 0) ({ feed, kind, clocked = false } = squitterFeedOf(squitter, library, piece));
         hear(feed ? encoder.encode(feed.takeText(piece)) : piece);
         postMessage({ done: Math.min((from + PIECE_BYTES) / file.size, 1) });
       }
       if (feed) hear(encoder.encode(feed.finishText()));
       if (isText) postMessage({ text: log.finishText(format) });
       else tell(log.finish());
-      postMessage({ finished: true, feed: feed && feed.counts, kind });
+      postMessage({ finished: true, feed: feed && feed.counts, kind, clocked });
     } catch (error) {
       postMessage({ failed: String(error instanceof Error ? error.message : error) });
     }

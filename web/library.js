@@ -25,6 +25,9 @@ const What = Object.freeze({ FIX: 1, FOLLOWED: 2, WAITING: 3, SPLIT: 4, FAR: 5, 
 const Format = Object.freeze({ LINES: 0, CSV: 1, JSON: 2 });
 const FeedFormat = Object.freeze({ BEAST: 0, AVR: 1, CSV: 2, LOG: 3, AUTO: 4 });
 const Stranger = Object.freeze({ SBS: 5, TAR: 6, PACKED: 7, UTF16: 8, JSON: 9, NO_FRAME: 10 });
+const Unit = Object.freeze({
+  MILLISECONDS: 0, SECONDS: 1, MICROSECONDS: 2, NANOSECONDS: 3, ALL_ZERO: 4, GPS: 5,
+});
 const BYTES = Object.freeze({
   fault: 16, angle: 16, position: 32, degreesE7: 8, fields: 40, airHead: 12, groundHead: 12, altitude: 8, zones: 16,
   received: 24, lastFix: 40, side: 88, entry: 192, last: 16, heard: 40, block: 16, tracker: 16, present: 16, log: 16,
@@ -467,6 +470,13 @@ class Lent {
       throw error;
     }
   }
+  grow(size, move) {
+    const { memory } = this.library, block = memory.claim(size), last = this.rooms.grown;
+    writeBlock(memory.view(), memory.outAt, { size: BigInt(block.count), memory: BigInt(block.at) });
+    this.rooms.grown = block;
+    move(this.slot, BigInt(memory.outAt));
+    if (last) memory.release(last);
+  }
   close() {
     if (!this.block) return;
     this.library.memory.exports[`squitter_${this.name}_free`](this.slot);
@@ -838,14 +848,15 @@ function joinedSquitters(parts) {
   }
   return { moments, frames };
 }
-const SORTED_AT_ONCE = 1024;
+const SORTED_AT_ONCE = 1024, FIRST_ROOM = 4096;
 class Order {
   #lent;
   #library;
+  #room = FIRST_ROOM;
   constructor(library, reorder) {
     const { memory } = library, delay = moment(reorder);
     this.#library = library;
-    this.#lent = new Lent(this, library, "order", Number(memory.exports.squitter_order_size()),
+    this.#lent = new Lent(this, library, "order", Number(memory.exports.squitter_order_size(FIRST_ROOM)),
       (slot, block) => ask(library, "order_new", slot, block, delay));
     const moments = 8 * SORTED_AT_ONCE, frames = FRAME_BYTES * SORTED_AT_ONCE;
     this.#lent.claimRooms({ done: BYTES.done, came: moments, data: frames, moments, frames });
@@ -868,12 +879,33 @@ class Order {
     return joinedSquitters(parts);
   }
   get held() {
-    const { memory } = this.#library;
-    ask(this.#library, "order_held", this.#lent.slot, BigInt(memory.outAt));
-    return Number(memory.view().getBigUint64(memory.outAt, true));
+    return this.#count("order_held");
+  }
+  get late() {
+    return this.#count("order_late");
   }
   close() {
     this.#lent.close();
+  }
+  #count(name) {
+    const { memory } = this.#library;
+    ask(this.#library, name, this.#lent.slot, BigInt(memory.outAt));
+    return Number(memory.view().getBigUint64(memory.outAt, true));
+  }
+  #grow() {
+    const room = 2 * this.#room, { exports } = this.#library.memory;
+    this.#lent.grow(Number(exports.squitter_order_size(room)),
+      (slot, block) => ask(this.#library, "order_grow", slot, block));
+    this.#room = room;
+  }
+  #isFull(name, ...words) {
+    try {
+      ask(this.#library, name, this.#lent.slot, ...words);
+      return false;
+    } catch (fault) {
+      if (fault.code !== Code.NO_MEMORY) throw fault;
+      return true;
+    }
   }
   #take(came, bytes, parts) {
     const { memory } = this.#library, { rooms } = this.#lent, count = rooms.came ? came.length : 0;
@@ -887,14 +919,15 @@ class Order {
     const { memory } = this.#library, { rooms } = this.#lent, { zerosAt } = memory;
     const [moments, frames, done] = [rooms.moments, rooms.frames, rooms.done].map((room) => room?.at ?? zerosAt);
     const outputs = [moments, SORTED_AT_ONCE, frames, SORTED_AT_ONCE, done].map(BigInt);
-    let taken = 0, written = 0;
+    let taken = 0, written = 0, isFull = false;
     do {
-      ask(this.#library, name, this.#lent.slot, ...given(taken), ...outputs);
+      isFull = this.#isFull(name, ...given(taken), ...outputs);
       const progress = readDone(memory.view(), done);
       taken += Number(progress.taken);
       written = Number(progress.written);
       parts.push(squittersAt(memory, moments, frames, written));
-    } while (written === SORTED_AT_ONCE);
+      if (isFull) this.#grow();
+    } while (isFull || written === SORTED_AT_ONCE);
   }
 }
 class Squitter {
@@ -1043,6 +1076,20 @@ class Squitter {
     this.#ask("field_of_feet", fits ? Number(number) : 0x7fffffff, BigInt(outAt));
     return this.memory.view().getUint16(outAt, true);
   }
+  unitOf(moments, addresses, clocked = false) {
+    const { memory } = this, times = BigUint64Array.from(moments, moment), aircraft = Uint32Array.from(addresses);
+    const count = times.length;
+    if (count !== aircraft.length) throw new RangeError(`${count} timestamps and ${aircraft.length} addresses`);
+    const room = memory.claim(12 * count + 16), next = room.at + 8 * count;
+    try {
+      memory.putBytes(room.at, new Uint8Array(times.buffer));
+      memory.putBytes(next, new Uint8Array(aircraft.buffer));
+      const words = [room.at, count, next, count].map(BigInt);
+      return memory.exports.squitter_unit_of(...words, clocked ? 1 : 0);
+    } finally {
+      memory.release(room);
+    }
+  }
   faultText(code, first = 0n, second = 0) {
     const { exports, faultAt, outAt } = this.memory, view = this.memory.view();
     const numbers = [[code, 32], [first, 64], [second, 32]].map(([value, bits]) => [whole(value), bits]);
@@ -1080,6 +1127,6 @@ async function load(source) {
 }
 return {
   AirHead, AltitudeForm, Angle, Code, Contact, Fault, Feed, FeedFormat, Format, GroundHead, Kind, Log, Order,
-  Squitter, Stranger, Tracker, WINDOW, What, load,
+  Squitter, Stranger, Tracker, Unit, WINDOW, What, load,
 };
 }

@@ -102,7 +102,7 @@ class LogPanel {
   }
 
   /** Handles a message of the worker. */
-  told({ answers, done, finished, failed, feed, kind }) {
+  told({ answers, done, finished, failed, feed, kind, clocked }) {
     if (answers) {
       const first = !this.answers.count;
       this.answers.add(answers);
@@ -114,17 +114,17 @@ class LogPanel {
       byId("log-progress").value = done;
       this.say(`Decoding ${this.name}: ${this.answers.count} results.`, false);
     }
-    if (finished) this.end("decoded", feed, kind);
+    if (finished) this.end("decoded", feed, kind, clocked);
     if (failed) this.end(`not decoded to its end (${failed})`);
   }
 
   /** Ends the log, at its end or because it was left. `feed` has the counts of a receiver's file, and `kind` says what
-   * a file of another kind is. */
-  end(how, feed = null, kind = "") {
+   * a file of another kind is. A receiver's clock gave the timestamps if they are `clocked`. */
+  end(how, feed = null, kind = "", clocked = false) {
     this.stop();
     this.seconds = (performance.now() - this.started) / 1000;
     if (how === "decoded") byId("log-progress").value = 1;
-    this.say(this.summary(how, feed, kind));
+    this.say([this.summary(how, feed, kind), this.answers.unitText(clocked)].filter(Boolean).join(" "));
     this.showRows();
     this.nameTracks();
     if (!this.map.moved) this.map.fit(this.tracks.all.has(this.selected) ? this.selected : this.map.address);

@@ -1,8 +1,8 @@
 /* squitter.d.ts: the types of squitter.js. tests/page holds the names here to what the module exports. */
 
-import { AltitudeForm, Code, FeedFormat, Format, Kind, Stranger, What } from "./squitter_layout.js";
+import { AltitudeForm, Code, FeedFormat, Format, Kind, Stranger, Unit, What } from "./squitter_layout.js";
 
-export { AltitudeForm, Code, FeedFormat, Format, Kind, Stranger, What } from "./squitter_layout.js";
+export { AltitudeForm, Code, FeedFormat, Format, Kind, Stranger, Unit, What } from "./squitter_layout.js";
 
 /** The default window of trackers, contacts and logs, in milliseconds: 10 seconds, as that of `squitter track`. */
 export declare const WINDOW: bigint;
@@ -191,6 +191,7 @@ export declare class Squitter {
   angleE7(degrees: Degrees): bigint;
   /** Returns the position in units of 10^-7 degree, rounded half away from zero. Fault: BAD_POSITION. */
   positionE7(position: Position): { lat: number; lon: number };
+  unitOf(moments: Iterable<bigint | number>, addresses: Iterable<number>, clocked?: boolean): Unit;
   /** Decodes an altitude field of 12 bits in an airborne position of this type code. Fault: BAD_FIELDS. */
   feetOfField(typeCode: Whole, field: Whole): Altitude;
   /** Returns the altitude field for these feet, a multiple of 25 from -1000 to 50175. Fault: BAD_FEET. */
@@ -377,12 +378,14 @@ export declare class Order {
   /** Creates an order without squitters. */
   constructor(library: Squitter, reorder: Whole);
   /** Takes squitters, by their timestamps (ms) and their frames, 14 bytes each. Returns those that are due. Throws a
-   * RangeError unless there are as many timestamps as frames. Fault: NO_TRACKER. */
+   * RangeError unless there are as many timestamps as frames, or if the memory cannot grow. Fault: NO_TRACKER. */
   take(moments: Iterable<Whole>, frames: BufferSource): Squitters;
   /** Returns the squitters that are held, and holds none afterwards. Fault: NO_TRACKER. */
   flush(): Squitters;
-  /** How many squitters are held: at most 4096. Fault: NO_TRACKER. */
+  /** How many squitters are held. Fault: NO_TRACKER. */
   get held(): number;
+  /** How many squitters came below the last timestamp that was given, and were dropped. Fault: NO_TRACKER. */
+  get late(): number;
   /** Frees the memory. Safe to call twice. */
   close(): void;
 }

@@ -22,9 +22,9 @@ import {
   GROUND_HEAD_MEMBERS, readAltitude, readDegreesE7, writeFault,
 } from "./squitter_layout.js";
 import { Memory, ask, angleAt, positionAt } from "./squitter_memory.js";
-import { AirHead, Fault, GroundHead, fitted, frameBytes, whole } from "./squitter_values.js";
+import { AirHead, Fault, GroundHead, fitted, frameBytes, moment, whole } from "./squitter_values.js";
 
-export { Code, Kind, AltitudeForm, What, Format, FeedFormat, Stranger } from "./squitter_layout.js";
+export { Code, Kind, AltitudeForm, What, Format, FeedFormat, Stranger, Unit } from "./squitter_layout.js";
 export { WINDOW, Fault, Angle, AirHead, GroundHead } from "./squitter_values.js";
 export { Contact, Log, Tracker } from "./squitter_tracking.js";
 export { Feed } from "./squitter_feed.js";
@@ -224,6 +224,24 @@ export class Squitter {
     const fits = BigInt.asIntN(32, number) === number;
     this.#ask("field_of_feet", fits ? Number(number) : 0x7fffffff, BigInt(outAt));
     return this.memory.view().getUint16(outAt, true);
+  }
+
+  /** Returns what timestamps (ms) seem to be (Unit), by the gaps between those of an aircraft. Both arrays have a value
+   * for each squitter. Of timestamps that a receiver's clock gave (`clocked`), only GPS time and zeros are told. Throws
+   * a RangeError unless there are as many of one as of the other. */
+  unitOf(moments, addresses, clocked = false) {
+    const { memory } = this, times = BigUint64Array.from(moments, moment), aircraft = Uint32Array.from(addresses);
+    const count = times.length;
+    if (count !== aircraft.length) throw new RangeError(`${count} timestamps and ${aircraft.length} addresses`);
+    const room = memory.claim(12 * count + 16), next = room.at + 8 * count;
+    try {
+      memory.putBytes(room.at, new Uint8Array(times.buffer));
+      memory.putBytes(next, new Uint8Array(aircraft.buffer));
+      const words = [room.at, count, next, count].map(BigInt);
+      return memory.exports.squitter_unit_of(...words, clocked ? 1 : 0);
+    } finally {
+      memory.release(room);
+    }
   }
 
   /** Returns the words of a fault, those of the program if it has any. */

@@ -152,3 +152,17 @@ export declare const Stranger: {
   readonly NO_FRAME: 10;
 };
 export type Stranger = (typeof Stranger)[keyof typeof Stranger];
+
+/** What timestamps seem to be. */
+export declare const Unit: {
+  /** Or too few show it. */
+  readonly MILLISECONDS: 0;
+  readonly SECONDS: 1;
+  readonly MICROSECONDS: 2;
+  readonly NANOSECONDS: 3;
+  /** Several frames, all with the timestamp 0. */
+  readonly ALL_ZERO: 4;
+  /** A receiver's clock that counts GPS time, and not 12 MHz. */
+  readonly GPS: 5;
+};
+export type Unit = (typeof Unit)[keyof typeof Unit];

@@ -39,6 +39,11 @@ export const FeedFormat = Object.freeze({ BEAST: 0, AVR: 1, CSV: 2, LOG: 3, AUTO
 /** Sources without frames of a known format. */
 export const Stranger = Object.freeze({ SBS: 5, TAR: 6, PACKED: 7, UTF16: 8, JSON: 9, NO_FRAME: 10 });
 
+/** What timestamps seem to be. */
+export const Unit = Object.freeze({
+  MILLISECONDS: 0, SECONDS: 1, MICROSECONDS: 2, NANOSECONDS: 3, ALL_ZERO: 4, GPS: 5,
+});
+
 /** The size of each struct in bytes. */
 export const BYTES = Object.freeze({
   fault: 16, angle: 16, position: 32, degreesE7: 8, fields: 40, airHead: 12, groundHead: 12, altitude: 8, zones: 16,

@@ -206,6 +206,16 @@ export class Lent {
     }
   }
 
+  /** Calls `move` with the slot and a pointer to a block of `size` bytes, which takes the place of the one before it.
+   * Throws a RangeError if the memory cannot grow. */
+  grow(size, move) {
+    const { memory } = this.library, block = memory.claim(size), last = this.rooms.grown;
+    writeBlock(memory.view(), memory.outAt, { size: BigInt(block.count), memory: BigInt(block.at) });
+    this.rooms.grown = block;
+    move(this.slot, BigInt(memory.outAt));
+    if (last) memory.release(last);
+  }
+
   /** Frees the memory. Each later call throws NO_TRACKER. */
   close() {
     if (!this.block) return;

@@ -20,11 +20,12 @@ import ctypes
 import functools
 import operator
 import struct
+from array import array
 from dataclasses import dataclass
 from decimal import Decimal
 from fractions import Fraction
 from numbers import Rational
-from typing import Any, Callable, List, NamedTuple, Optional, Sequence, Tuple, TypeVar, Union
+from typing import Any, Callable, Iterable, List, NamedTuple, Optional, Sequence, Tuple, TypeVar, Union
 
 from squitter._errors import (
     hint_of_altitude, hint_of_code, hint_of_field, hint_of_head, hint_of_text, index, shown, whole,
@@ -34,16 +35,16 @@ from squitter._library import (
 )
 from squitter._made import (
     ANGLE_TEXT_BYTES, FAULT_TEXT_BYTES, FRAME_BYTES, FRAME_DIGITS, AltitudeForm, Code, FeedFormat, Format, Kind,
-    Stranger, What, _AirHead, _Altitude, _Angle, _DegreesE7, _Fault, _Fields, _GroundHead, _Heard, _Zones,
+    Stranger, Unit, What, _AirHead, _Altitude, _Angle, _DegreesE7, _Fault, _Fields, _GroundHead, _Heard, _Zones,
 )
 from squitter._results import Results
 
 __all__ = [
     "AirHead", "Altitude", "AltitudeForm", "Code", "Contact", "Counts", "Fault", "Feed", "FeedFormat", "Fields",
     "Format", "Frame", "GroundHead", "Heard", "Kind", "Log", "Order", "Position", "Present", "Results", "Stranger",
-    "Tally", "Tracker", "WINDOW", "What", "Zones", "angle", "angle_e7", "angle_text", "encode", "fault_text",
+    "Tally", "Tracker", "Unit", "WINDOW", "What", "Zones", "angle", "angle_e7", "angle_text", "encode", "fault_text",
     "feet_of_field", "field_of_feet", "frame", "frame_text", "local", "local_many", "local_zones", "pair",
-    "pair_many", "position_e7", "read", "read_many", "send_again", "version", "zone_count",
+    "pair_many", "position_e7", "read", "read_many", "send_again", "unit_of", "version", "zone_count",
 ]
 
 
@@ -643,6 +644,23 @@ def fault_text(code: int, first: int = 0, second: int = 0) -> str:
 
 # Many frames have the same few faults.
 _words = functools.lru_cache(512, typed=True)(fault_text)
+
+
+def unit_of(moments: Iterable[int], addresses: Iterable[int], clocked: bool = False) -> Unit:
+    """Returns what timestamps (ms) seem to be, by the gaps between those of an aircraft. Both arguments have a value
+    for each squitter. Of timestamps that a receiver's clock gave (`clocked`), only GPS time and zeros are told. Raises
+    ValueError unless timestamps are whole numbers below 2**64 and addresses below 2**32, as many of one as of the
+    other."""
+    times, aircraft = array("Q"), array("I")
+    try:
+        times.extend(moments)
+        aircraft.extend(addresses)
+    except (OverflowError, TypeError) as error:
+        raise ValueError(f"timestamps are whole numbers below 2**64, and addresses below 2**32: {error}") from None
+    if len(times) != len(aircraft):
+        raise ValueError(f"there are {len(times)} timestamps and {len(aircraft)} addresses")
+    at = [ctypes.c_void_p(part.buffer_info()[0] or 8) for part in (times, aircraft)]
+    return Unit(_lib.squitter_unit_of(at[0], len(times), at[1], len(aircraft), bool(clocked)))
 
 
 def version() -> str:

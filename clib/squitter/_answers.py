@@ -14,7 +14,7 @@ from squitter import WINDOW, AltitudeForm, Kind, Point, Position, What
 from squitter._errors import missing
 from squitter._made import _Answer
 from squitter._records import FAULT, POSITION, TRACKED, Records, _limit, _moments, kind_of, name_of_type, refuse_mask
-from squitter._source import Source, bytes_of, refuse_none, squitters_of, unpacked, warn_of_times
+from squitter._source import WATCHED, Source, bytes_of, refuse_none, squitters_of, unpacked, warn_of_unit
 
 if TYPE_CHECKING:
     import pandas  # type: ignore[import]
@@ -291,10 +291,11 @@ def dataframe(
 
     The log is a file or a pipe, by its name or open for bytes, or bytes, or a table with the columns `moment` and
     `frame`. A file may also be a receiver's: Beast, AVR or CSV, as :func:`squitter.batch.feed` reads them; `line` then
-    counts its squitters. It may be packed by gzip, bzip2 or xz. Frames without times get the timestamp 0, and a warning
-    says so if there are several. Window, site and limit are those of :func:`squitter.batch.track`. Raises ValueError if
-    no frame is in the file, or if an archive is damaged or ends early, and KeyError for a table without one of the two
-    columns. A site may be any floats: they are rounded to 12 decimals, a tenth of a micrometre.
+    counts its squitters. It may be packed by gzip, bzip2 or xz. Frames without times get the timestamp 0. A warning
+    says if there are several, or if timestamps do not seem to be milliseconds. Window, site and limit are those of
+    :func:`squitter.batch.track`. Raises ValueError if no frame is in the file, or if an archive is damaged or ends
+    early, and KeyError for a table without one of the two columns. A site may be any floats: they are rounded to 12
+    decimals, a tenth of a micrometre.
     """
     try:
         import pandas
@@ -303,9 +304,12 @@ def dataframe(
 
     site = _rounded(site)
     if isinstance(log, (str, os.PathLike, bytes, bytearray, memoryview)) or hasattr(log, "read"):
-        told, places = _columns_of_file(log, window, site, limit, exact)
+        told, places, clocked = _columns_of_file(log, window, site, limit, exact)
     else:
         told, places = _columns_of_squitters(_column(log, "moment"), _column(log, "frame"), window, site, limit)
+        clocked = False
+    moments, addresses = (told[name][:WATCHED].compressed().tolist() for name in ("moment", "address"))
+    warn_of_unit(moments, [int(address, 16) for address in addresses], clocked, 2)
     frame = pandas.DataFrame({name: _of_pandas(name, values) for name, values in told.items()}, copy=False)
     if exact:
         both = fractions(places)
@@ -328,19 +332,18 @@ _LINE_OF_FRAME = 30  # bytes of the shortest line with a frame
 
 def _columns_of_file(
     log: Source, window: int, site: Optional[Point], limit: Optional[int], exact: bool
-) -> Tuple[Dict[str, np.ma.MaskedArray[Any, Any]], Records]:
-    """Decodes a file. Returns the columns of its results, and the positions. Frames without times may be a log of which
-    the first lines lack theirs."""
+) -> Tuple[Dict[str, np.ma.MaskedArray[Any, Any]], Records, bool]:
+    """Decodes a file. Returns the columns of its results, the positions, and whether a receiver's clock gave the
+    timestamps. Frames without times may be a log of which the first lines lack theirs."""
     data = unpacked(bytes_of(log), log)
-    squitters = squitters_of(data, log)
+    squitters, clocked = squitters_of(data, log)
     if squitters is None or not squitters[0].any():
         told, places, has_good = _columns_of_log(data, window, site, limit, exact)
         if squitters is None and not has_good:
             refuse_none(data, log)
         if squitters is None or has_good:
-            return told, places
-    warn_of_times(squitters, 3)
-    return _columns_of_squitters(*squitters, window, site, limit)
+            return told, places, False
+    return (*_columns_of_squitters(*squitters, window, site, limit), clocked)
 
 
 def _columns_of_squitters(

@@ -6,7 +6,7 @@ import operator
 import re
 from typing import Any, Container, Dict, Optional, Tuple, Type
 
-from squitter._made import Code, Stranger
+from squitter._made import Code, Stranger, Unit
 
 _MOST_SHOWN = 60  # characters
 
@@ -124,9 +124,18 @@ STRANGERS: Dict[Stranger, str] = {
     Stranger.PACKED: "the input is compressed: try gzip -dc FILE | squitter feed",
     Stranger.UTF16: "the input is UTF-16: try iconv -f UTF-16 -t UTF-8 FILE | squitter feed",
     Stranger.JSON: "the input is lines of JSON, which have no frames",
-    Stranger.NO_FRAME: "no frame is in the first 16384 bytes: try --format=beast, avr, csv or log",
+    Stranger.NO_FRAME: "no frame is in the first 16384 bytes: try --format=beast, avr, csv or log"
+                       "; a table has the columns time (seconds), icao24 and rawmsg",
 }
-ALL_AT_0 = "all frames of this file have the timestamp 0, as without times: old ones pair with new"
+# What timestamps that are no milliseconds are, in the words of `squitter feed`.
+UNITS: Dict[Unit, str] = {
+    Unit.SECONDS: "the timestamps of this log seem to be seconds; they have to be milliseconds",
+    Unit.MICROSECONDS: "the timestamps seem to be microseconds; a log has milliseconds, and a table has seconds",
+    Unit.NANOSECONDS: "the timestamps seem to be nanoseconds; a log has milliseconds, and a table has seconds",
+    Unit.ALL_ZERO: "all frames of this file have the timestamp 0, as without times: old ones pair with new",
+    Unit.GPS: "the clock of this source seems to be GPS time (Radarcape): set it to 12 MHz, or read its port with "
+              "--arrival",
+}
 
 
 def hint_of_source(stranger: Optional[Stranger], counts: Any, front: bytes) -> str:

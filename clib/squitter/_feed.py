@@ -86,8 +86,8 @@ class Feed(_Lent):
             return self._texts(_bytes(piece), arrival)
 
     def finish(self, arrival: int = 0) -> bytes:
-        """Ends the source. Returns the lines of its last squitters, such as that of a last line without a line feed.
-        The next piece belongs to another source."""
+        """Ends the source. Returns the lines of its last squitters, such as that of a last line without a line feed,
+        and those of rows that waited for others to confirm their times. The next piece belongs to another source."""
         with self._lock:
             self._look_open()
             return self._texts(None, arrival)
@@ -136,7 +136,7 @@ class Feed(_Lent):
 
     @property
     def counts(self) -> Counts:
-        """The counts of the items so far."""
+        """The counts of the items so far. A row that waits is counted when its time is confirmed, or at the end."""
         with self._lock:
             self._look_open()
             out = _Counts()

@@ -134,6 +134,19 @@ class Stranger(enum.IntEnum):
     NO_FRAME = 10  # bytes without frames
 
 
+class Unit(enum.IntEnum):
+    """What timestamps seem to be."""
+
+    __module__ = "squitter"
+
+    MILLISECONDS = 0  # or too few show it
+    SECONDS = 1
+    MICROSECONDS = 2
+    NANOSECONDS = 3
+    ALL_ZERO = 4  # several frames, all with the timestamp 0
+    GPS = 5  # a receiver's clock that counts GPS time, and not 12 MHz
+
+
 # ---- structures ----
 
 
@@ -319,8 +332,10 @@ CALLS: Dict[str, Tuple[List[Any], Any]] = {
     "feed_disconnected": ([_P(_Feed)], _Fault),
     "feed_format": ([_P(_Feed), _P(ctypes.c_uint32)], _Fault),
     "feed_counts": ([_P(_Feed), _P(_Counts)], _Fault),
-    "order_size": ([], ctypes.c_size_t),
+    "unit_of": ([ctypes.c_void_p, ctypes.c_size_t, ctypes.c_void_p, ctypes.c_size_t, ctypes.c_uint8], ctypes.c_uint32),
+    "order_size": ([ctypes.c_uint32], ctypes.c_size_t),
     "order_new": ([_P(_Order), _Block, ctypes.c_uint64], _Fault),
+    "order_grow": ([_P(_Order), _Block], _Fault),
     "order_free": ([_P(_Order)], None),
     "order_take": ([
         _P(_Order), ctypes.c_void_p, ctypes.c_size_t, ctypes.c_void_p, ctypes.c_size_t, ctypes.c_void_p,
@@ -330,6 +345,7 @@ CALLS: Dict[str, Tuple[List[Any], Any]] = {
         _P(_Order), ctypes.c_void_p, ctypes.c_size_t, ctypes.c_void_p, ctypes.c_size_t, _P(_Done),
     ], _Fault),
     "order_held": ([_P(_Order), _P(ctypes.c_uint64)], _Fault),
+    "order_late": ([_P(_Order), _P(ctypes.c_uint64)], _Fault),
     "read_many": ([
         ctypes.c_void_p, ctypes.c_size_t, ctypes.c_void_p, ctypes.c_size_t, ctypes.c_void_p, ctypes.c_size_t,
     ], ctypes.c_size_t),

@@ -9,14 +9,14 @@ import os
 import re
 import warnings
 import zlib
-from typing import Any, Callable, Dict, Optional, Tuple, Union
+from typing import Any, Callable, Dict, Optional, Sequence, Tuple, Union
 
 import numpy as np
 import numpy.typing as npt
 
 import squitter
 from squitter import FeedFormat
-from squitter._errors import ALL_AT_0, hint_of_source, shown
+from squitter._errors import UNITS, hint_of_source, shown
 
 Source = Union[str, "os.PathLike[str]", Any]
 """A file, by its name or open for bytes, or bytes."""
@@ -27,6 +27,8 @@ Squitters = Tuple[npt.NDArray[np.uint64], npt.NDArray[np.uint8]]
 _FIRST = 1 << 14  # bytes by which the library finds the format of a source
 _PIECE = 1 << 20  # bytes that a feed takes at once
 _PACKED = 1 << 16  # bytes that are unpacked at once
+WATCHED = 1 << 14  # squitters that show the unit of their timestamps
+_CLOCKED = (FeedFormat.BEAST, FeedFormat.AVR)  # timestamps by a receiver's clock
 
 # Archives by their first bytes, and what unpacks them.
 _ARCHIVES: Dict[bytes, Tuple[str, Callable[[], Any]]] = {
@@ -42,26 +44,28 @@ def feed(source: Source, format: Union[FeedFormat, str, None] = None, leap: int 
     The source is a file or a pipe, by its name or open for bytes, or bytes. It is what ``squitter feed`` reads: Beast,
     AVR, CSV with the columns time and rawmsg, or a log, also packed by gzip, bzip2 or xz. Without a `format`
     (:class:`squitter.FeedFormat` or its name) its first bytes decide. A gap above `leap` milliseconds is a jump of the
-    receiver's clock. Frames without times get the timestamp 0, and a warning says so if there are several. Raises
-    ValueError if the source has no squitter, or if an archive is damaged or ends early.
+    receiver's clock. Frames without times get the timestamp 0. A warning says if there are several, or if timestamps do
+    not seem to be milliseconds. Raises ValueError if the source has no squitter, or if an archive is damaged or ends
+    early.
     """
-    squitters, fault = _squitters(unpacked(bytes_of(source), source), format or FeedFormat.AUTO, leap)
+    squitters, fault, form = _squitters(unpacked(bytes_of(source), source), format or FeedFormat.AUTO, leap)
     if fault:
         raise ValueError(f"{name_of(source)}: {fault}")
-    warn_of_times(squitters, 2)
+    times, frames = squitters[0][:WATCHED], squitters[1][:WATCHED]
+    warn_of_unit(times.tolist(), (frames[:, 1:4] @ np.array([1 << 16, 1 << 8, 1])).tolist(), form in _CLOCKED, 2)
     return squitters
 
 
-def squitters_of(data: npt.NDArray[np.uint8], source: Source) -> Optional[Squitters]:
-    """Returns the squitters of a recording of Beast, AVR or CSV, or None for any other data, such as a log. Raises
-    ValueError if there are none."""
+def squitters_of(data: npt.NDArray[np.uint8], source: Source) -> Tuple[Optional[Squitters], bool]:
+    """Returns the squitters of a recording of Beast, AVR or CSV, or None for any other data, such as a log; and whether
+    a receiver's clock gave the timestamps. Raises ValueError if there are none."""
     form = _format_of(data)
     if form is None or form == FeedFormat.LOG:
-        return None
-    squitters, fault = _squitters(data, form, 600_000)
+        return None, False
+    squitters, fault, _ = _squitters(data, form, 600_000)
     if fault:
         raise ValueError(f"{name_of(source)}: {fault}")
-    return squitters
+    return squitters, form in _CLOCKED
 
 
 def _format_of(data: npt.NDArray[np.uint8]) -> Optional[FeedFormat]:
@@ -71,19 +75,22 @@ def _format_of(data: npt.NDArray[np.uint8]) -> Optional[FeedFormat]:
         return source.format
 
 
-def _squitters(data: npt.NDArray[np.uint8], form: Union[FeedFormat, str], leap: int) -> Tuple[Squitters, str]:
-    """Returns the squitters of a recording, and why there are none, or an empty text."""
+def _squitters(
+    data: npt.NDArray[np.uint8], form: Union[FeedFormat, str], leap: int
+) -> Tuple[Squitters, str, Optional[FeedFormat]]:
+    """Returns the squitters of a recording; why there are none, or an empty text; and the format of the recording."""
     moments, frames = [], []
     with squitter.Feed(form, leap) as source:
         for at in range(0, len(data), _PIECE):
             times, some = source.take_frames(data[at:at + _PIECE].tobytes())
             moments.append(np.frombuffer(times, np.uint64) if times else np.zeros(0, np.uint64))
             frames.append(some)
+        found = source.format
         times, some = source.finish_frames()
         stranger, counts = source.stranger, source.counts
     moments.append(np.array(times, np.uint64))
     squitters = np.concatenate(moments), np.frombuffer(b"".join([*frames, some]), np.uint8).reshape(-1, 14)
-    return squitters, "" if counts.written else hint_of_source(stranger, counts, data[:8].tobytes())
+    return squitters, "" if counts.written else hint_of_source(stranger, counts, data[:8].tobytes()), found
 
 
 def refuse_none(data: npt.NDArray[np.uint8], source: Source) -> None:
@@ -92,11 +99,11 @@ def refuse_none(data: npt.NDArray[np.uint8], source: Source) -> None:
         raise ValueError(f"{name_of(source)}: {_squitters(data, FeedFormat.AUTO, 0)[1]}")
 
 
-def warn_of_times(squitters: Squitters, above: int) -> None:
-    """Warns the caller, so many calls above, of several frames without times, which all have the timestamp 0. A single
-    frame needs no time."""
-    if len(squitters[0]) > 1 and not squitters[0].any():
-        warnings.warn(ALL_AT_0, stacklevel=above + 1)
+def warn_of_unit(moments: Sequence[int], addresses: Sequence[int], clocked: bool, above: int) -> None:
+    """Warns the caller, so many calls above, if timestamps do not seem to be milliseconds, or several are all 0."""
+    unit = squitter.unit_of(moments, addresses, clocked)
+    if unit in UNITS:
+        warnings.warn(UNITS[unit], stacklevel=above + 1)
 
 
 def bytes_of(source: Source) -> npt.NDArray[np.uint8]:

@@ -375,27 +375,51 @@ static void try_a_feed(void) {
 
 /* Tests the calls of an order; tests/order.c tests each border. */
 static void try_an_order(void) {
-  _Alignas(32) static unsigned char memory[1 << 18];
-  const squitter_block whole = {sizeof memory, memory}, small = {squitter_order_size() - 1, memory};
+  _Alignas(32) static unsigned char memory[1 << 18], more[1 << 18];
+  const squitter_block whole = {sizeof memory, memory}, small = {squitter_order_size(0) - 1, memory};
   const uint64_t moments[2] = {30, 10};
   const frame_bytes frames[2] = {{1}, {2}};
   squitter_order order = {0, 0};
   squitter_done done;
-  uint64_t moment = 9, held = 9;
+  uint64_t moment = 9, held = 9, late = 9;
   frame_bytes frame;
   filled(&done, sizeof done), filled(frame, sizeof frame);
   IS(is_fault(squitter_order_take(&order, moments, 2, frames, 2, &moment, 1, &frame, 1, &done),
               SQUITTER_NO_TRACKER, 0));
   IS(is_fault(squitter_order_flush(&order, &moment, 1, &frame, 1, &done), SQUITTER_NO_TRACKER, 0));
   IS(is_fault(squitter_order_held(&order, &held), SQUITTER_NO_TRACKER, 0) && held == 9 && moment == 9);
+  IS(is_fault(squitter_order_late(&order, &late), SQUITTER_NO_TRACKER, 0) && late == 9);
+  IS(is_fault(squitter_order_grow(&order, whole), SQUITTER_NO_TRACKER, 0));
   IS(is_filled(&done, sizeof done) && is_filled(frame, sizeof frame));
   IS(is_fault(squitter_order_new(&order, small, 20), SQUITTER_NO_MEMORY, 0));
   IS(is_ok(squitter_order_new(&order, whole, 20)));
   IS(is_ok(squitter_order_take(&order, moments, 2, frames, 2, &moment, 1, &frame, 1, &done)));
   IS(done.taken == 2 && done.written == 1 && moment == 10 && frame[0] == 2);
   IS(is_ok(squitter_order_held(&order, &held)) && held == 1);
+  IS(is_ok(squitter_order_grow(&order, (squitter_block){sizeof more, more})));
   IS(is_ok(squitter_order_flush(&order, &moment, 1, &frame, 1, &done)) && done.written == 1 && moment == 30);
+  IS(is_ok(squitter_order_take(&order, moments + 1, 1, frames, 1, &moment, 1, &frame, 1, &done)) && done.taken == 1);
+  IS(is_ok(squitter_order_late(&order, &late)) && late == 1 && done.written == 0);
   squitter_order_free(&order);
+}
+
+/* Sixteen gaps of a second in a log of seconds show it, and fifteen do not. */
+static void try_units(void) {
+  uint64_t moments[17];
+  uint32_t addresses[17];
+  for (int at = 0; at < 17; at++) moments[at] = 1795965328 + (uint64_t)at, addresses[at] = 0x40621D;
+  IS(squitter_unit_of(moments, 17, addresses, 17, 0) == SQUITTER_UNIT_SECONDS);
+  IS(squitter_unit_of(moments, 16, addresses, 17, 0) == SQUITTER_UNIT_MILLISECONDS);
+  IS(squitter_unit_of(moments, 17, addresses, 16, 0) == SQUITTER_UNIT_MILLISECONDS);
+  IS(squitter_unit_of(moments, 17, addresses, 17, 1) == SQUITTER_UNIT_MILLISECONDS);
+  for (int at = 0; at < 17; at++) moments[at] = 500000 * (uint64_t)at;
+  IS(squitter_unit_of(moments, 17, addresses, 17, 0) == SQUITTER_UNIT_MICROSECONDS);
+  for (int at = 0; at < 17; at++) moments[at] = 500000000 * (uint64_t)at;
+  IS(squitter_unit_of(moments, 17, addresses, 17, 0) == SQUITTER_UNIT_NANOSECONDS);
+  for (int at = 0; at < 17; at++) moments[at] = ((uint64_t)at << 30) / 12000;
+  IS(squitter_unit_of(moments, 17, addresses, 17, 1) == SQUITTER_UNIT_GPS);
+  moments[0] = moments[1] = 0;
+  IS(squitter_unit_of(moments, 2, addresses, 2, 1) == SQUITTER_UNIT_ALL_ZERO);
 }
 
 int main(void) {
@@ -417,6 +441,7 @@ int main(void) {
   try_saving();
   try_a_feed();
   try_an_order();
+  try_units();
   printf("exports: %d of %d wrong\n", wrong, tried);
   return wrong != 0;
 }

@@ -329,6 +329,8 @@ static void try_late(void) {
     int length = sprintf(source, "5000 " EVEN "\n%d " EVEN "\n", (int)rows[i].row);
     IS(squitter_feed_new(&feed, lend(squitter_feed_size()), SQUITTER_FEED_LOG, LEAP, rows[i].late, 0).code == 0);
     IS(squitter_feed_take(&feed, source, (size_t)length, 0, moments, 3, frames, 3, &done).code == 0);
+    /* The first row waits until another fits it, or for the end. */
+    IS(rows[i].moment || (!done.written && squitter_feed_finish(&feed, 0, moments, 3, frames, 3, &done).code == 0));
     IS(done.written == (rows[i].moment ? 2 : 1) && moments[0] == 5000);
     IS(!rows[i].moment || moments[1] == rows[i].moment);
     squitter_feed_free(&feed);
@@ -437,7 +439,10 @@ static void try_lives(void) {
   squitter_feed_free(&feed);
   try_none(&feed);
   begin(&feed, SQUITTER_FEED_LOG, 0);
-  IS(squitter_feed_take(&feed, "7 " ODD "\n8", 32, 0, moments, 1, frames, 1, &done).code == 0 && done.taken == 31);
+  /* The first row waits for the second, and both are given, one to a call. */
+  IS(squitter_feed_take(&feed, "7 " ODD "\n7 " ODD "\n8", 63, 0, moments, 1, frames, 1, &done).code == 0);
+  IS(done.taken == 62 && done.written == 1);
+  IS(squitter_feed_take(&feed, "", 0, 0, moments, 1, frames, 1, &done).code == 0 && !done.taken && done.written == 1);
   IS(squitter_feed_take(&feed, "", 0, 0, moments, 1, frames, 1, &done).code == 0 && !done.taken && !done.written);
   IS(squitter_feed_take(&feed, "9\n", 2, 0, moments, 0, frames, 1, &done).code == 0 && !done.taken && !done.written);
   IS(squitter_feed_take(&feed, "9\n", 2, 0, moments, 1, frames, 0, &done).code == 0 && !done.taken && !done.written);

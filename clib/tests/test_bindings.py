@@ -113,6 +113,9 @@ class OfTheHeader(unittest.TestCase):
             "log_header": ([word, text], None),
             "order_take": ([to(get("_Order")), *(4 * [address, size]), to(get("_Done"))], fault),
             "order_held": ([to(get("_Order")), to(wide)], fault),
+            "order_late": ([to(get("_Order")), to(wide)], fault),
+            "order_grow": ([to(get("_Order")), get("_Block")], fault),
+            "order_size": ([word], size),
             "pair_at_many": ([address, size, address, size, to(get("_Position")), address, size, address, size], size),
             "feed_size": ([], size), "version": ([], word),
         }

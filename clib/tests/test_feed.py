@@ -129,7 +129,8 @@ class Feeds(unittest.TestCase):
                                   (2000, 2999, None), (2**64 - 1, 1, 1)):
             told = f"{moment} {ODD}\n" if moment else ""
             lines = f"5000 {EVEN}\n{row} {ODD}\n".encode()
-            self.assertEqual(Feed("log", late=late).take(lines), f"5000 {EVEN}\n{told}".encode())
+            feed = Feed("log", late=late)
+            self.assertEqual(feed.take(lines) + feed.finish(), f"5000 {EVEN}\n{told}".encode())
         for wrong in (-1, 2**64):
             with self.assertRaises(ValueError):
                 Feed(late=wrong)
@@ -183,7 +184,8 @@ class Feeds(unittest.TestCase):
         self.assertEqual([form.value for form in (*FeedFormat, *Stranger)], list(range(11)))
         far = f"0 {EVEN}\n{2**64 - 1} {ODD}\n".encode()
         self.assertEqual(Feed("log", leap=2**64 - 1).take(far), far)
-        self.assertEqual(Feed("log", leap=2**64 - 2).take(far), far[:31])
+        feed = Feed("log", leap=2**64 - 2)
+        self.assertEqual((feed.take(far), feed.finish()), (b"", far))
 
     def test_format_of_a_source(self):
         """The first bytes show the format: a line with a frame, the start of a Beast message, or two messages after
@@ -221,7 +223,7 @@ class Feeds(unittest.TestCase):
             self.assertEqual(feed.stranger, stranger if is_soon else None, source[:20])
             self.assertEqual(feed.finish(), b"")
             self.assertEqual((feed.stranger, feed.format, feed.counts.damaged), (stranger, None, 1))
-            self.assertEqual(feed.take(f"7 {EVEN}\n".encode()), f"7 {EVEN}\n".encode())
+            self.assertEqual(feed.take(f"7 {EVEN}\n".encode() * 2), f"7 {EVEN}\n".encode() * 2)
             self.assertEqual(feed.format, FeedFormat.LOG)
         with Feed() as feed:
             self.assertEqual((feed.finish(), feed.format, feed.stranger), (b"", None, None))
@@ -232,11 +234,12 @@ class Feeds(unittest.TestCase):
         self.assertEqual(len(line), 49)
         for count in (1, 1335, 1336, 1337, 1338, 4095, 4096, 4097, 8192, 10_000):
             feed = Feed("log")
+            self.assertEqual((feed.take(line), feed.take(line)), (b"", line * 2))
             self.assertEqual(feed.take(line * count), line * count)
             times, frames = feed.take_frames(line * count)
             self.assertEqual((set(times), len(times)), ({2345678901234567890}, count))
             self.assertEqual(frames, bytes.fromhex(EVEN) * count)
-            self.assertEqual(feed.counts.written, 2 * count)
+            self.assertEqual(feed.counts.written, 2 * count + 2)
         # After the first call, one byte too few is left for the longest line.
         lines = line[1:] * 26 + line * 1312
         self.assertEqual(len(lines) - len(line), (1 << 16) - 49)

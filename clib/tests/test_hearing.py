@@ -103,6 +103,7 @@ class Hearing(Refusing):
             feed = squitter.Feed("log")
             take = feed.take if texts else feed.take_frames
             ours, theirs = (f"5 {frame}\n".encode() for frame in (EVEN, ODD))
+            feed.take(ours * 2)  # (the first row waits for the second)
             outer, inner = interrupted(lambda: take(ours * 5), lambda: take(theirs))
             if not texts:
                 outer, *inner = (b"".join(b"%d %s\n" % (moment, frames[14 * at:14 * at + 14].hex().upper().encode())

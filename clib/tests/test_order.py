@@ -1,5 +1,5 @@
 #!/usr/bin/env python3
-"""Tests the class Order of the module squitter: squitters that come late, in any cut, a full order, and errors."""
+"""Tests the class Order of the module squitter: squitters that come late, in any cut, many of them, and errors."""
 import array
 import copy
 import doctest
@@ -49,27 +49,46 @@ class Orders(unittest.TestCase):
             self.assertEqual(frames + some, b"".join(map(frame, SORTED)))
 
     def test_due(self):
-        """A squitter is given once one has come that is later by the delay; one that is late by more, at once."""
+        """A squitter is given once one has come that is later by the delay."""
         order = Order(25)
         self.assertEqual(order.take(array.array("Q", [30, 10, 30, 20, 34]), bytearray(70))[0].tolist(), [])
         self.assertEqual(order.take([35], memoryview(frame(1))), (array.array("Q", [10]), bytes(14)))
         self.assertEqual(order.take([55], frame(2))[0].tolist(), [20, 30, 30])
-        self.assertEqual(order.take([30], frame(3)), (array.array("Q", [30]), frame(3)))
         self.assertEqual(order.take([], b"")[0].tolist(), [])
         self.assertEqual(order.flush(), (array.array("Q", [34, 35, 55]), bytes(14) + frame(1) + frame(2)))
+        self.assertEqual(order.late, 0)
 
-    def test_full(self):
-        """A full order gives the earliest."""
-        order = Order(2**64 - 1)
-        self.assertEqual(order.take(range(4096, 1, -1), bytes(14 * 4095))[0].tolist(), [])
-        self.assertEqual((order.take([9000], frame(1))[0].tolist(), order.held), ([2], 4095))
-        self.assertEqual(order.take(iter([1]), frame(1)), (array.array("Q", [1]), frame(1)))
-        self.assertEqual(order.flush()[0].tolist(), [*range(3, 4097), 9000])
+    def test_late(self):
+        """A squitter below the last timestamp given is dropped and counted; one at it is not. A flush counts too."""
+        order = Order(10)
+        self.assertEqual(order.take([20, 30], bytes(28))[0].tolist(), [20])
+        self.assertEqual((order.take([19], frame(1))[0].tolist(), order.late, order.held), ([], 1, 1))
+        self.assertEqual(order.take([20, 21], frame(2) + frame(3)), (array.array("Q", [20]), frame(2)))
+        self.assertEqual((order.late, order.flush()[0].tolist()), (1, [21, 30]))
+        self.assertEqual((order.take([29, 30, 0], bytes(42))[0].tolist(), order.late, order.held), ([], 3, 1))
+        self.assertEqual(order.flush()[0].tolist(), [30])
+
+    def test_many(self):
+        """An order takes memory as it needs, and gives all in order: below and above the room of its first block."""
+        for count in (4095, 4096, 4097, 5461, 5462, 5463, 20_000):
+            with Order(2**64 - 1) as order:
+                self.assertEqual(order.take(range(count, 0, -1), bytes(14 * count))[0].tolist(), [])
+                self.assertEqual(order.held, count)
+                self.assertEqual(order.flush()[0].tolist(), [*range(1, count + 1)])
+                self.assertEqual((order.held, order.late), (0, 0))
+
+    def test_grouped(self):
+        """Rows that are grouped by aircraft: 20,000 squitters, each group over the whole time, come out in order."""
+        moments = [1000 * at + group for group in range(20) for at in range(1000)]
+        with Order(2**40) as order:
+            self.assertEqual(order.take(moments, bytes(14 * len(moments)))[0].tolist(), [])
+            self.assertEqual((order.flush()[0].tolist(), order.late), (sorted(moments), 0))
 
     def test_ends_of_timestamps(self):
         """The largest timestamp and no delay, and the largest delay."""
         order = Order(0)
-        self.assertEqual(order.take([2**64 - 1, 0], bytes(28))[0].tolist(), [2**64 - 1, 0])
+        self.assertEqual(order.take([2**64 - 1, 2**64 - 1, 0], bytes(42))[0].tolist(), [2**64 - 1, 2**64 - 1])
+        self.assertEqual(order.late, 1)
         order = Order(2**64 - 1)
         self.assertEqual(order.take([1, 0, 2**64 - 1], bytes(42))[0].tolist(), [0])
 
@@ -87,7 +106,7 @@ class Orders(unittest.TestCase):
         self.assertRaisesRegex(TypeError, "^an order cannot be copied or pickled$", copy.copy, order)
         order.close()
         order.close()
-        for call in (order.flush, lambda: order.held, lambda: order.take([], b""), order.__enter__):
+        for call in (order.flush, lambda: order.held, lambda: order.late, lambda: order.take([], b""), order.__enter__):
             self.refused(Code.NO_TRACKER, call)
 
     def test_examples(self):

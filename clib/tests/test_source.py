@@ -10,11 +10,12 @@ import lzma
 import mmap
 import os
 import pathlib
+import re
 import sys
 import tempfile
 import unittest
 import warnings
-from typing import Any, Callable, Iterator, Type
+from typing import Any, Callable, Iterator, List, Type
 from unittest import mock
 
 import numpy as np
@@ -31,7 +32,8 @@ except ImportError:
     pandas = None
 
 ALL_AT_0 = "all frames of this file have the timestamp 0, as without times: old ones pair with new"
-NO_FRAME = "no frame is in the first 16384 bytes: try format=beast, avr, csv or log"
+NO_FRAME = ("no frame is in the first 16384 bytes: try format=beast, avr, csv or log"
+            "; a table has the columns time (seconds), icao24 and rawmsg")
 NO_SQUITTER = "no extended squitter (DF17) is in it"
 UNTIMED = {
     "avr": f"*{ODD};\r\n*{EVEN};\r\n".encode(),
@@ -102,10 +104,12 @@ class Recordings(unittest.TestCase):
                 self.assertEqual(batch.dataframe(data)["moment"].tolist(), MOMENTS)
 
     def test_leap(self) -> None:
-        """Gaps up to the leap are kept, and longer ones are jumps of the clock."""
-        data = b"".join(f"@{12_000 * moment:012X}{ODD};".encode() for moment in (1, 101, 202))
-        for leap, wanted in ((100, [1, 101]), (101, [1, 101, 202])):
-            self.assertEqual(batch.feed(data + b"\n", "avr", leap)[0].tolist(), wanted)
+        """Gaps up to the leap, and up to a day, are kept. Longer ones are jumps of the clock."""
+        day = 86_400_000
+        moments = [1, day + 101, 2 * day + 202]
+        data = b"".join(f"@{12_000 * moment:012X}{ODD};".encode() for moment in moments)
+        for leap, count in ((0, 1), (day + 99, 1), (day + 100, 2), (day + 101, 3)):
+            self.assertEqual(batch.feed(data + b"\n", "avr", leap)[0].tolist(), moments[:count])
 
     def test_without_times(self) -> None:
         """Frames without times get the timestamp 0, as `squitter feed` gives them to a file, and a warning says so. A
@@ -126,6 +130,29 @@ class Recordings(unittest.TestCase):
         for zeros in (f"0 {ODD}\n0 {EVEN}\n", f"0,x,{ODD}\n0,x,{EVEN}\n", f"{ODD}\n{EVEN}"):
             with self.assertWarnsRegex(UserWarning, ALL_AT_0):
                 self.assertEqual(batch.feed(zeros.encode())[0].tolist(), [0, 0])
+
+    def test_other_units(self) -> None:
+        """A warning says what timestamps seem to be, once for each call, of a log, a table and a recording."""
+        def warned(call: Callable[[], object]) -> List[str]:
+            with warnings.catch_warnings(record=True) as found:
+                warnings.simplefilter("always")
+                call()
+            self.assertLessEqual({one.filename for one in found}, {__file__})
+            return [str(one.message) for one in found]
+
+        def log(step: int) -> bytes:
+            return b"".join(b"%d %s\n" % (step * at, (ODD, EVEN)[at % 2].encode()) for at in range(17))
+
+        gps = b"".join(b"@%012X%s;\n" % (at << 30 | 5, ODD.encode()) for at in range(1, 18))
+        seconds = "the timestamps of this log seem to be seconds; they have to be milliseconds"
+        micros = "the timestamps seem to be microseconds; a log has milliseconds, and a table has seconds"
+        clock = ("the clock of this source seems to be GPS time (Radarcape): set it to 12 MHz, or read its port with "
+                 "--arrival")
+        for data, told in ((log(1), [seconds]), (log(500_000), [micros]), (log(500), []), (gps, [clock])):
+            self.assertEqual(warned(lambda: batch.feed(data)), told)
+            self.assertEqual(warned(lambda: batch.dataframe(data)), told)
+        table = {"moment": list(range(17)), "frame": [ODD] * 17}
+        self.assertEqual(warned(lambda: batch.dataframe(table)), [seconds])
 
     def test_few(self) -> None:
         """One message or two, also without a line feed at the end, by each form of source and by a pipe."""
@@ -172,7 +199,7 @@ class Recordings(unittest.TestCase):
 
     def test_no_format(self) -> None:
         late = b"x\n" * (1 << 13)  # as long as the bytes that may show a format
-        with self.assertRaisesRegex(ValueError, NO_FRAME):
+        with self.assertRaisesRegex(ValueError, re.escape(NO_FRAME)):
             batch.feed(late + SOURCES["log"])
         self.same(batch.feed(late[:-len(f"6682 {EVEN}\n") - 1] + b"\n" + SOURCES["log"]))
         for form in ("xml", 5, -1):
