@@ -6,11 +6,8 @@ from __future__ import annotations
 import bz2
 import lzma
 import zlib
-from typing import Any, Callable, Dict, Iterator, NamedTuple, Optional, Tuple
+from typing import Any, Callable, Dict, Generator, Iterator, NamedTuple, Optional, Tuple
 
-from squitter_feed import Refused
-
-ZLIB = type(zlib.decompressobj())
 MEMORY = 100_000_000  # bytes that xz may take: its highest preset takes 65 MiB
 
 # Archives by their first bytes, and what to do with them.
@@ -21,17 +18,18 @@ REFUSED: Dict[bytes, str] = {
     b"\x04\x22\x4d\x18": "compressed by lz4: try lz4 -dc FILE | squitter feed",
     b"LZIP": "compressed by lzip: try lzip -dc FILE | squitter feed",
     b"\x5d\x00\x00": "compressed by lzma: try xz -dc FILE | squitter feed",
-    b"\x1f\x9d": "compressed by compress: try gunzip -c FILE | squitter feed",
-    b"\x1f\xa0": "compressed by compress: try gunzip -c FILE | squitter feed",
+    **dict.fromkeys((b"\x1f\x9d", b"\x1f\xa0"), "compressed by compress: try gunzip -c FILE | squitter feed"),
     b"7z\xbc\xaf\x27\x1c": "a 7z archive: unpack it first",
     b"Rar!\x1a\x07": "a rar archive: unpack it first",
     b"SQLite format 3\x00": "an SQLite database",
     b"PAR1": "a Parquet file",
-    b"\xd4\xc3\xb2\xa1": "a capture of network packets",
-    b"\xa1\xb2\xc3\xd4": "a capture of network packets",
-    b"\x0a\x0d\x0d\x0a": "a capture of network packets",
+    **dict.fromkeys((b"\xd4\xc3\xb2\xa1", b"\xa1\xb2\xc3\xd4", b"\n\r\r\n"), "a capture of network packets"),
 }
 FAULTS = (zlib.error, lzma.LZMAError, OSError)  # (bz2 raises the last one)
+
+
+class Refused(Exception):
+    """The source has no format that is read."""
 
 
 class Kind(NamedTuple):
@@ -51,38 +49,32 @@ PACKED = {
 }
 
 
-class Member:
-    """One member of an archive: of gzip, or a stream of bzip2 or xz."""
-
-    def __init__(self, kind: Kind) -> None:
-        self.kind = kind
-        self.inner = kind.begin()
-        self.rest: Optional[bytes] = None  # what stands behind the member, once its end has come
-
-    def pieces(self, data: bytes) -> Iterator[bytes]:
-        """Unpacks data in pieces of at most a room; those of gzip up to the damaged byte where one is damaged."""
-        for at in range(0, len(data), self.kind.slice):
-            left, piece = data[at : at + self.kind.slice], b""
-            while left or len(piece) == self.kind.room:
-                saved = self.inner.copy() if isinstance(self.inner, ZLIB) else None  # (the others have no copy)
-                try:
-                    piece = self.inner.decompress(left, self.kind.room)
-                except zlib.error:
-                    for number in left if saved else b"":
-                        yield saved.decompress(bytes([number]))
-                    raise
-                yield piece
-                if self.inner.eof:
-                    self.rest = self.inner.unused_data + data[at + self.kind.slice :]
-                    return
-                left = self.inner.unconsumed_tail if saved else b""
-
-
 def magic_of(data: bytes) -> Tuple[Optional[bytes], bool]:
     """Returns the magic number that data begin with, and whether more bytes may complete one."""
     known = [*PACKED, *REFUSED]
     found = next((magic for magic in known if data.startswith(magic)), None)
     return found, found is None and any(magic.startswith(data) for magic in known)
+
+
+def unpacked(kind: Kind, member: Any, data: bytes) -> Generator[bytes, None, bytes]:
+    """Unpacks a member of an archive in pieces of at most a room; those of gzip up to the damaged byte where one is
+    damaged. Returns the data behind the member's end."""
+    for at in range(0, len(data), kind.slice):
+        left, piece = data[at : at + kind.slice], b""
+        while left or len(piece) == kind.room:
+            saved = member.copy() if kind.name == "gzip" else None  # (the others have no copy)
+            try:
+                piece = member.decompress(left, kind.room)
+            except zlib.error:
+                for number in left if saved else b"":
+                    yield saved.decompress(bytes([number]))
+                raise
+            if piece:
+                yield piece
+            if member.eof:
+                return member.unused_data + data[at + kind.slice :]
+            left = member.unconsumed_tail if saved else b""
+    return b""
 
 
 class Unpacking:
@@ -91,35 +83,36 @@ class Unpacking:
     def __init__(self) -> None:
         self.plain = False
         self.head = b""  # first bytes that may yet become a magic number
-        self.name = ""  # the kind of the archive, once one has begun
-        self.packed: Optional[Member] = None
+        self.kind: Optional[Kind] = None  # of the archive, once one has begun
+        self.member: Any = None  # what unpacks the member of the archive that has begun
 
     def pieces(self, data: bytes) -> Iterator[bytes]:
         """Passes on what is known by these bytes. Raises `Refused` once that is done where an archive is damaged."""
         data, self.head = self.head + data, b""
         while data and not self.plain:
-            if self.packed is None and not self._begins(data):
+            if self.member is None and not self._begins(data):
                 return
-            if self.packed is not None:
-                yield from self._unpacked(self.packed, data)
-                rest = self.packed.rest
-                data = (rest or b"").lstrip(b"\x00")  # (an archive may be filled up with zeros)
-                if rest is not None:
-                    self.packed = None
+            if self.kind is not None:
+                try:
+                    data = yield from unpacked(self.kind, self.member, data)
+                except FAULTS as fault:
+                    what = "wants too much memory" if "Memory" in str(fault) else "is damaged"
+                    raise Refused(f"the {self.kind.name} archive {what}") from None
+                if self.member.eof:
+                    self.member, data = None, data.lstrip(b"\x00")  # (an archive may be filled up with zeros)
         if data:
             yield data
 
     def end(self) -> Iterator[bytes]:
         """Passes on what was held. Raises `Refused` where an archive ends early."""
-        if self.packed is not None or self.head and self.name:
-            raise Refused(f"the {self.name} archive ends early")
+        if self.kind is not None and (self.member is not None or self.head):
+            raise Refused(f"the {self.kind.name} archive ends early")
         if self.head:
             yield self.head
-        self.head = b""
 
     def _begins(self, data: bytes) -> bool:
         """Tells whether more can be passed on: of an archive that begins, or of a plain source."""
-        if self.name and not data.strip(b"\x00"):
+        if self.kind is not None and not data.strip(b"\x00"):
             return False
         magic, may_come = magic_of(data)
         if may_come:
@@ -127,16 +120,10 @@ class Unpacking:
         elif magic in REFUSED:
             raise Refused(f"the input is {REFUSED[magic]}")
         elif magic is not None:
-            self.name, self.packed = PACKED[magic].name, Member(PACKED[magic])
-        elif self.name:
-            raise Refused(f"the {self.name} archive is damaged at its end")
+            self.kind = PACKED[magic]
+            self.member = self.kind.begin()
+        elif self.kind is not None:
+            raise Refused(f"the {self.kind.name} archive is damaged at its end")
         else:
             self.plain = True
         return not may_come
-
-    def _unpacked(self, member: Member, data: bytes) -> Iterator[bytes]:
-        try:
-            yield from filter(None, member.pieces(data))
-        except FAULTS as fault:
-            is_large = "Memory" in str(fault)
-            raise Refused(f"the {self.name} archive {'wants too much memory' if is_large else 'is damaged'}") from None

@@ -9,6 +9,7 @@ from typing import Any, Mapping, NoReturn
 
 VERSION = "0.1.0"
 REFUSED, MISUSED, FAILED = 1, 2, 3  # statuses
+PLENTY = 2000  # the --reorder (ms) to try if frames were late or set aside
 
 
 class Parser(argparse.ArgumentParser):

@@ -4,14 +4,14 @@ from __future__ import annotations
 from typing import List
 
 from parts import SECOND, fed, log, moments, of_file, rows_of, split
-from squitter_feed import Feed, Options
+from squitter_feed import Feed
 from trying import AIR_EVEN, AIR_ODD, beast, clocked, row, same
 
 E = AIR_EVEN.encode()
 
 
 def feed_of(live: bool, **options: object) -> Feed:
-    return Feed(Options(**options), live, lambda _: None)  # type: ignore[arg-type]
+    return Feed(live, lambda _: None, **options)  # type: ignore[arg-type]
 
 
 def longest_line() -> None:
@@ -50,11 +50,13 @@ def jitter() -> None:
 
 def leap() -> None:
     """A clock that goes ahead by the leap does not jump; by more it does, unless the arrivals do too, to the
-    millisecond."""
-    for ahead in (999, 1000, 1001):
-        ticks = [5000, 5000 + ahead, 5001 + ahead, 5002 + ahead]
-        got = of_file(*(clocked(AIR_EVEN, 12_000 * k) for k in ticks), leap=1000)
-        same(got, ticks if ahead <= 1000 else [5000, 6000], ahead)
+    millisecond. In a file, a day is no jump either."""
+    day = 86_400_000
+    for leap, least in ((1000, day), (day + 1000, day + 1000)):
+        for ahead in (least - 1, least, least + 1):
+            ticks = [5000, 5000 + ahead, 5001 + ahead, 5002 + ahead]
+            got = of_file(*(clocked(AIR_EVEN, 12_000 * k) for k in ticks), leap=leap)
+            same(got, ticks if ahead <= least else [5000, 5002 + ahead], ahead)
     for away in (-1001, -1000, -999, 999, 1000, 1001):
         pieces = [(clocked(AIR_EVEN, 12_000 * 5000), 0)]
         pieces += [(clocked(AIR_EVEN, 12_000 * (25_000 + k)), 20_000 + k - away) for k in range(3)]
@@ -62,16 +64,17 @@ def leap() -> None:
 
 
 def agreeing() -> None:
-    """Rows that leap are set aside until the third in turn that is at or after the one before."""
+    """Rows that leap wait until the third in turn that is at or after the one before. The first row waits for
+    another."""
     def aside(*seconds: int) -> List[int]:
         feed = feed_of(False)
         return [feed.hear(row(str(second)), 0).count(b"\n") for second in seconds]
 
-    same(aside(0, 1, 2, 9000, 9001, 9002), [1, 1, 1, 0, 0, 1])
-    same(aside(0, 1, 2, 9000, 9000, 9000), [1, 1, 1, 0, 0, 1])
-    same(aside(0, 1, 2, 9000, 9001, 3, 9002), [1, 1, 1, 0, 0, 1, 0])
-    same(aside(0, 1, 2, 9000, 19_000, 29_000, 39_000, 49_000), [1, 1, 1, 0, 0, 1, 1, 1])
-    same(aside(0, 1, 2, 9000, 39_000, 29_000, 19_000, 49_000, 59_000), [1, 1, 1, 0, 0, 0, 0, 0, 1])
+    same(aside(0, 1, 2, 9000, 9001, 9002), [0, 2, 1, 0, 0, 3])
+    same(aside(0, 1, 2, 9000, 9000, 9000), [0, 2, 1, 0, 0, 3])
+    same(aside(0, 1, 2, 9000, 9001, 3, 9002), [0, 2, 1, 0, 0, 1, 0])
+    same(aside(0, 1, 2, 9000, 19_000, 29_000, 39_000, 49_000), [0, 2, 1, 0, 0, 3, 0, 0])
+    same(aside(0, 1, 2, 9000, 39_000, 29_000, 19_000, 49_000, 59_000), [0, 2, 1, 0, 0, 0, 0, 0, 3])
 
 
 def counted() -> None:
@@ -93,21 +96,22 @@ def newest() -> None:
     same(given, [[], [], [950], [], [], [], [1000, 1000], [1000], []])
     # (one that is late by more than --reorder has the earliest timestamp that is sorted in)
     same(feed.hear(log(999), 0), log(1000))
-    same((feed.end(0), feed.late), (log(1001, 1010, 1060, 1099, 1100), 0))
+    same(feed.end(0), log(1001, 1010, 1060, 1099, 1100))
+    same(feed.summary(), "10 written")
 
 
 def held() -> None:
     """A frame is held for --reorder milliseconds, live by its arrival, and in a file until one so much later comes."""
     live = feed_of(True, reorder=100)
-    same(live.hear(log(5000), 1000), b"")
-    same([(live.wait(now), live.due(now)) for now in (1099, 1100)], [(1, b""), (0, log(5000))])
+    same(live.hear(log(5000, 5000), 1000), b"")
+    same([(live.wait(now), live.due(now)) for now in (1099, 1100)], [(1, b""), (0, log(5000, 5000))])
     for ahead, printed in ((99, b""), (100, log(5000)), (101, log(5000))):
         file = feed_of(False, reorder=100)
         file.hear(log(5000), 0)
         same(file.hear(log(5000 + ahead), 0), printed, ahead)
         same((file.wait(10**9), file.due(10**9)), (None, b""))
     at_once = feed_of(True)
-    same((at_once.hear(log(7), 0), at_once.wait(0), at_once.due(10**9)), (log(7), None, b""))
+    same((at_once.hear(log(7, 7), 0), at_once.wait(0), at_once.due(10**9)), (log(7, 7), None, b""))
 
 
 def clock_turn() -> None:
@@ -142,6 +146,6 @@ def no_times() -> None:
         same(len(fed([(data, 5)], False, **options)[2]), 1, data)
     for data in (b"*%s;\n" % E, clocked(AIR_EVEN, 11_999) + clocked(AIR_EVEN, 12_000), log(0, 1)):
         same(fed([(data, 5)], False)[2], [], data)
-    same(fed([(log(0, 0, 0), 5)], True)[2], [], "a live log of zeros")
+    same(len(fed([(log(0, 0, 0), 5)], True)[2]), 1, "a live log of zeros")
     rows, feed, _ = fed([(beast(AIR_EVEN) + beast(AIR_ODD, 1) + beast(AIR_EVEN), 5)], live=True)
     same((feed.summary(), [moment for moment, _ in rows]), ("3 written", [5, 5, 5]))

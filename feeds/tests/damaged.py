@@ -22,7 +22,7 @@ if __name__ == "__main__":
 
 import model
 from parts import rows_of, split
-from squitter_feed import Feed, Options
+from squitter_feed import Feed
 from trying import AIR_EVEN, AIR_ODD, COMM_B, FRAMES, REPLY, beast, clocked, expect, row, same
 
 STREAMS = 10_000
@@ -219,7 +219,7 @@ def explained(form: str, data: bytes, ours: List[str]) -> Tuple[str, ...]:
 
 
 def heard(pieces: List[bytes], live: bool) -> Tuple[bytes, str, Feed]:
-    feed = Feed(Options(all_formats=True), live, lambda _: None)
+    feed = Feed(live, lambda _: None, all_formats=True)
     lines = b"".join(feed.hear(piece, ARRIVAL) for piece in pieces) + feed.end(ARRIVAL)
     return lines, feed.summary(), feed
 

@@ -343,7 +343,7 @@ def one_place() -> None:
 
 def many_answers() -> None:
     """Each of thousands of answers, as rows and beside their log, has its place. One that is wrong has its number."""
-    places = [(moment, f"{0x400000 + moment % 7:06X}", f"{moment % 90}.0000000", "1.0000000") for moment in range(9000)]
+    places = [(1000 * k, f"{0x400000 + k % 7:06X}", f"{k % 90}.0000000", "1.0000000") for k in range(9000)]
     log, text = log_of_places(*places)
     rows = HEADER + "".join(f"{line},{moment},fix,{address},,{lat},{lon},\n"
                             for line, (moment, address, lat, lon) in enumerate(places, 1))
@@ -352,7 +352,7 @@ def many_answers() -> None:
         for address, one in features(drawing[1]).items():
             wanted = [[lon, lat, moment] for moment, of, lat, lon in places if of == address]
             same(lines_of(one), [wanted], address)
-            same(one["properties"]["line"], [moment + 1 for _, _, moment in wanted])
+            same(one["properties"]["line"], [moment // 1000 + 1 for _, _, moment in wanted])
     for number in (1, 4096, 4097, 9000):
         lines = text.splitlines(True)
         lines[number - 1] = lines[number - 1].replace(".0000000 1.", ".0000000 181.")

@@ -14,7 +14,7 @@ from typing import Callable, Dict, Iterable, List, Optional, Tuple
 
 import squitter_unpack
 from process import line_of, listening, ran, started
-from squitter_feed import Feed, Options, Refused
+from squitter_feed import Feed, Refused
 from squitter_unpack import Unpacking
 from trying import AIR_EVEN, AIR_ODD, GROUND, REPLY, Late, beast, clocked, expect, row, same
 
@@ -31,7 +31,7 @@ RECEIVER = b"\x1a\xe3" + bytes(range(8))
 def decided(pieces: Iterable[bytes], ends: bool = False) -> Tuple[object, int]:
     """What pieces are taken for, a format's name or the words of a refusal; and after how many bytes. At the end of a
     source that shows no format, how many frames were found."""
-    feed, count = Feed(Options(), True, lambda _: None), 0
+    feed, count = Feed(True, lambda _: None), 0
     try:
         for piece in pieces:
             count += len(piece)
@@ -155,7 +155,7 @@ def nothing_is_lost() -> None:
     ]
     for data, wanted, damage in rows:
         for pieces in ([data], byte_by_byte(data)):
-            feed = Feed(Options(), False, lambda _: None)
+            feed = Feed(False, lambda _: None)
             lines = b"".join(feed.hear(piece, 0) for piece in pieces) + feed.end(0)
             same((lines, feed.feed.counts.damaged), (wanted, damage), data)
 
@@ -163,7 +163,7 @@ def nothing_is_lost() -> None:
 def ids_of_receivers() -> None:
     """The ids that readsb sends before its messages are skipped and counted, also with escapes, and at the end."""
     data = b"".join(RECEIVER + beast(AIR_EVEN, 12_000 * number) for number in range(1, 401)) + b"\x1a\xe3\x1a\x1a1"
-    feed = Feed(Options(), False, lambda _: None)
+    feed = Feed(False, lambda _: None)
     lines = feed.hear(data, 0) + feed.end(0)
     same(lines, b"".join(b"%d %s\n" % (number, E) for number in range(1, 401)))
     counts = feed.feed.counts
@@ -246,7 +246,8 @@ def tables() -> None:
             (b"# a comment\n\n" + millis * 3, no_times), (b"x\n" * 900 + millis, no_times)]
     others = [b"x\n" * 1100 + millis, b"icao24;lat;lon\n40621d;5;6\n", b"40621d,5,6\n", b"%s%s,5\n" % (E, E),
               b"rawmsg\n", b"xrawmsg,5\n", b"x *%s;\n" % E, b"x %s,5\n" % E, b"5,9%s\n" % E[1:]]
-    no_frame = "no frame is in the first 16384 bytes: try --format=beast, avr, csv or log"
+    no_frame = ("no frame is in the first 16384 bytes: try --format=beast, avr, csv or log"
+                "; a table has the columns time (seconds), icao24 and rawmsg")
     for data, what in rows + [(data, no_frame) for data in others]:
         said = f"{what}{wanted}" if data not in others else what
         for front in (b"", b"\xef\xbb\xbf"):
@@ -255,7 +256,7 @@ def tables() -> None:
                 lines, refusal = heard(pieces)
                 expect(not lines and str(refusal).startswith(said), data, refusal)
     for before in (LINE, b"x\n" * 1100, b"x"):
-        feed = Feed(Options(), True, print)
+        feed = Feed(True, print)
         feed.hear(before, 0)
         feed.disconnected()
         try:
@@ -288,7 +289,7 @@ def byte_order_mark() -> None:
 
 def heard(pieces: Iterable[bytes], live: bool = True) -> Tuple[bytes, Optional[str]]:
     """The lines of a source in pieces, through unpacking and a feed; and the words by which it is refused."""
-    feed, unpacking = Feed(Options(), live, lambda _: None), Unpacking()
+    feed, unpacking = Feed(live, lambda _: None), Unpacking()
     lines = b""
     refusal = None
     try:

@@ -13,7 +13,7 @@ from unittest import mock
 
 from ending import held_in, is_waiting, wait_until
 from process import FEED, line_of, listening, put, reported, started
-from squitter_feed import Feed, Options
+from squitter_feed import Feed
 from trying import AIR_EVEN, AIR_ODD, Late, expect, same, took
 
 
@@ -205,7 +205,7 @@ def held_by_time() -> None:
 def last_line_in_order() -> None:
     """A last line without a line feed has the arrival of its piece, also where frames are sorted."""
     for reorder in (0, 500):
-        feed = Feed(Options(reorder), True, print)
+        feed = Feed(True, print, reorder)
         lines = feed.hear(b"*%s;\n%s" % (AIR_EVEN.encode(), AIR_ODD.encode()), 1000) + feed.end(31_000)
         same(lines, b"1000 %s\n1000 %s\n" % (AIR_EVEN.encode(), AIR_ODD.encode()), reorder)
 

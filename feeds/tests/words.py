@@ -8,8 +8,8 @@ from io import BytesIO
 from typing import List, Tuple
 
 from process import program, ran
-from squitter import Stranger
-from squitter._errors import STRANGERS
+from squitter import Stranger, Unit
+from squitter._errors import STRANGERS, UNITS
 from trying import AIR_EVEN, AIR_ODD, COMM_B, REPLY, beast, clocked, same
 
 MLAT = int.from_bytes(b"\xff\x00MLAT", "big")  # in the place of a clock
@@ -59,6 +59,8 @@ def counts_alike() -> None:
         ([], b"", "0 written", ""),
         ([], messages, f"2 written, {others}", ""),
         (["--all"], messages, "5 written", f", {others} among them"),
+        (["--all"], beast(f"87{AIR_ODD[2:]}", 12_000) + beast(f"88{AIR_ODD[2:]}", 24_000), "2 written",
+         ", 1 of other downlink formats (DF16 1) among them"),
         ([], short * 3 + beast(AIR_ODD, 12_000), "1 written, 3 of Mode A/C", ""),
         ([], beast(AIR_ODD, MLAT) + beast(AIR_ODD), "1 written, 1 multilaterated", ""),
         ([], b"\x1a\xe3" + bytes(8) + beast(AIR_ODD, 12_000), "1 written, 1 receiver ids", ""),
@@ -75,3 +77,35 @@ def counts_alike() -> None:
             file.flush()
             status, _, said = ran([file.name, *words])
         same((status, said), (0, f"squitter-feed: {wanted}{more}\n"), words, data)
+
+
+def units_alike() -> None:
+    """A line before the counts says what timestamps are that are no milliseconds, in the program's words. Both say what
+    to do with several clocks."""
+    far = ["--leap=999999999999999"]  # the longest leap
+
+    def log(step: int, times: int = 1) -> bytes:
+        return b"".join(b"%d %s\n" % (step * number * times, (AIR_ODD, AIR_EVEN)[number % 2].encode())
+                        for number in range(17))
+
+    seconds = [second << 30 | nano for second in range(40_000, 40_010) for nano in (0, 500_000_000)]
+    clocks = [12_000_000 * (7200 + number) - 12_000_000 * 3600 * (number % 3 == 2) for number in range(300)]
+    cases = {
+        Unit.SECONDS: log(1), Unit.MICROSECONDS: log(500_000), Unit.NANOSECONDS: log(500_000_000),
+        Unit.ALL_ZERO: f"*{AIR_ODD};\n".encode() * 2, Unit.GPS: b"".join(beast(AIR_ODD, ticks) for ticks in seconds),
+        Unit.MILLISECONDS: log(500), None: b"".join(beast(AIR_ODD, ticks) for ticks in clocks),
+    }
+    same(set(cases) - {None}, set(Unit), "units")
+    for unit, data in cases.items():
+        status, said = said_by_program(far * (unit is not None), data)
+        *told, counts = said.splitlines()
+        same((status, told), (0, [UNITS[unit]] if unit in UNITS else []), unit)
+        same(counts.endswith("; try --arrival: the source seems to have several clocks"), unit is None, counts)
+        with tempfile.NamedTemporaryFile() as file:
+            file.write(data)
+            file.flush()
+            status, _, said = ran([file.name, *far * (unit is not None)])
+        same((status, said.splitlines()), (0, [f"squitter-feed: {line}" for line in (*told, counts)]), unit)
+    for start in (b"88", b"8F"):  # the first and the last byte of DF17
+        said = ran(["-"], log(1).replace(b" 8D", b" " + start))[2]
+        same(said.splitlines()[0], f"squitter-feed: {UNITS[Unit.SECONDS]}", start)
