@@ -14,15 +14,17 @@ shown=0
 fail() { echo "failed: $1" >&2; exit 1; }
 seen() { shown=$((shown + 1)); }
 
-# is_live COMMAND LINE ANSWER: the line of a pipe that stays open until the answer is there, or for a minute
+# is_live COMMAND LINE ANSWER: the line of a pipe that stays open until the whole answer is there, or for a minute
 is_live() {
-    rm -f "$work/pipe"
+    # The answers of the command before would be read in place of its own, where the program starts slowly.
+    rm -f "$work/pipe" "$work/live"
     mkfifo "$work/pipe"
+    : > "$work/live"
     "$program" "$1" < "$work/pipe" > "$work/live" &
     exec 3> "$work/pipe"
     echo "$2" >&3
     tries=0
-    while [ ! -s "$work/live" ] && [ "$tries" -lt 600 ]; do sleep 0.1; tries=$((tries + 1)); done
+    while [ "$(wc -l < "$work/live")" = 0 ] && [ "$tries" -lt 600 ]; do sleep 0.1; tries=$((tries + 1)); done
     [ "$(cat "$work/live")" = "1 $3" ] || fail "$1: a line of an open pipe has no answer"
     exec 3>&-
     wait

@@ -10,7 +10,7 @@ import { HINTS } from "../../web/squitter_values.js";
 
 const {
   load, AirHead, AltitudeForm, Angle, Code, Contact, Fault, Feed, FeedFormat, GroundHead, Kind, Log, Order,
-  Stranger, Tracker, WINDOW, What,
+  Stranger, Tracker, Unit, WINDOW, What,
 } = squitter;
 const MODULE = readFileSync(new URL("../../dist/squitter.wasm", import.meta.url)), library = await load(MODULE);
 const FRAME = "8D40621D58C382D690C8AC2863A7";
@@ -106,7 +106,7 @@ const REFUSED = [
   [Code.BAD_FORMAT, () => new Log(library).finishText(3)],
   [Code.NO_TRACKER, () => gone.take([1n], new Uint8Array(14))],
   [Code.NO_TRACKER, () => gone.take([], new Uint8Array(0))],
-  [Code.NO_TRACKER, () => gone.flush()], [Code.NO_TRACKER, () => gone.held],
+  [Code.NO_TRACKER, () => gone.flush()], [Code.NO_TRACKER, () => gone.held], [Code.NO_TRACKER, () => gone.late],
   [RangeError, () => new Order(library, -1)], [RangeError, () => new Order(library, 1n << 64n)],
   [TypeError, () => new Order(library, 1.5)], [TypeError, () => new Order(library)],
   [RangeError, () => new Order(library, 0).take([1n], new Uint8Array(13))],
@@ -631,6 +631,21 @@ function formatsOfSources() {
   }
 }
 
+/** Tests the unit of timestamps: seventeen of one aircraft show it, and sixteen do not. */
+function unitsOfTimestamps() {
+  const at = (step, count = 17) => Array.from({ length: count }, (_, index) => step * index);
+  const gps = Array.from({ length: 17 }, (_, index) => (BigInt(index) << 30n) / 12_000n);
+  const cases = [
+    [at(1), false, "SECONDS"], [at(1, 16), false, "MILLISECONDS"], [at(500), false, "MILLISECONDS"],
+    [at(500_000), false, "MICROSECONDS"], [at(500_000_000), false, "NANOSECONDS"], [[0, 0], true, "ALL_ZERO"],
+    [gps, true, "GPS"], [at(500_000), true, "MILLISECONDS"], [[], false, "MILLISECONDS"],
+  ];
+  for (const [moments, clocked, name] of cases) {
+    const unit = library.unitOf(moments, moments.map(() => 0x40621d), clocked);
+    if (unit !== Unit[name]) throw new Error(`${moments.join()} is ${unit}, not ${name}`);
+  }
+}
+
 /** Tests a source of each format: squitters, as arrays and as text, and counts do not depend on the cut. */
 function feedsInPieces() {
   for (const [name, source] of Object.entries(SOURCES)) {
@@ -660,11 +675,13 @@ function feedsInPieces() {
 function largeFeeds() {
   for (const count of [1, 1023, 1024, 1025, 2048, 2113, 2114, 2115, 9000]) {
     const line = `7 ${EVEN}\n`, feed = new Feed(library, { format: FeedFormat.LOG });
+    if (feed.takeText(text(line.repeat(2))) !== line.repeat(2)) throw new Error("the first two lines"); // (one waits)
     const { moments, frames } = feed.take(text(line.repeat(count))), given = feed.takeText(text(line.repeat(count)));
     const good = moments.length === count && frames.length === 14 * count && moments.every((at) => at === 7n);
     if (!good || linesOf({ moments: moments.slice(-2), frames: frames.slice(-28) }) !== line.repeat(Math.min(count, 2)))
       throw new Error(`${count} squitters are ${moments.length}`);
-    if (given !== line.repeat(count) || feed.counts.written !== BigInt(2 * count)) throw new Error(`${count} lines`);
+    const { written } = feed.counts;
+    if (given !== line.repeat(count) || written !== BigInt(2 * count + 2)) throw new Error(`${count} lines`);
     feed.close();
   }
   // After the first call, one byte too few is left for the longest line.
@@ -697,7 +714,7 @@ function liveFeeds() {
 /** Tests each setting of a feed beside its default: late rows, other downlink formats, and an ignored clock. */
 function feedSettings() {
   const answers = (settings, source, arrival) => {
-    const feed = new Feed(library, settings), lines = feed.takeText(text(source), arrival);
+    const feed = new Feed(library, settings), lines = feed.takeText(text(source), arrival) + feed.finishText(arrival);
     feed.close();
     return lines;
   };
@@ -735,15 +752,18 @@ function numbersOf({ moments, frames }) {
   return [...moments].map((at, index) => `${at}:${frames[14 * index] + 256 * frames[14 * index + 1]}`).join(" ");
 }
 
-/** Tests an order: squitters that are due, equal and late ones, a flush, and one that holds all it can. */
+/** Tests an order: squitters that are due, equal and late ones, a flush, and one that grows. */
 function orders() {
   const order = new Order(library, 200), told = [];
   const calls = [[[500, 400, 650], [1, 2, 3]], [[], []], [[500n, 699], [4, 5]], [[700], [6]], [[100], [7]]];
   for (const [moments, numbers] of calls)
     told.push(`${numbersOf(order.take(moments, numbered(numbers)))} ${order.held}`);
   told.push(`${numbersOf(order.flush())} ${order.held}`, numbersOf(order.flush()));
-  const wanted = ["400:2 2", " 2", " 4", "500:1 500:4 3", "100:7 3", "650:3 699:5 700:6 0", ""];
+  const wanted = ["400:2 2", " 2", " 4", "500:1 500:4 3", " 3", "650:3 699:5 700:6 0", ""];
   if (told.join("|") !== wanted.join("|")) throw new Error(`an order: ${told.join("|")}`);
+  // Below and at the last timestamp that was given.
+  const edges = [699, 700].map((at) => (order.take([at], numbered([1])), `${order.late} ${order.held}`));
+  if (edges.join("|") !== "2 0|2 1") throw new Error(`late ones: ${edges.join("|")}`);
   order.close();
   // The first of three squitters makes 3000 due, which fill the outputs before the other two are taken.
   const filled = new Order(library, 100), early = Array.from({ length: 3000 }, (_, at) => at);
@@ -759,15 +779,15 @@ function orders() {
   }
   const { memory } = library;
   if (memory.bytesAt(memory.zerosAt, 64).some(Boolean)) throw new Error("a closed order has written");
-  for (const count of [1, 1023, 1024, 1025, 2048, 4095, 4096, 4097, 6144, 9000]) {
+  for (const count of [1, 1023, 1024, 1025, 2048, 4096, 4097, 5462, 5463, 9000, 40_000]) {
     const full = new Order(library, 2n ** 64n - 1n), numbers = Array.from({ length: count }, (_, at) => at);
     const moments = numbers.map((at) => (at ^ 1) + 7);
     const sorted = [...numbers].sort((one, other) => (one ^ 1) - (other ^ 1));
     const given = full.take(moments, numbered(numbers)), rest = full.flush();
-    const held = Math.min(count, 4095), all = [numbersOf(given), numbersOf(rest)].filter(Boolean).join(" ");
-    if (rest.moments.length !== held || given.moments.length !== count - held)
+    if (given.moments.length || rest.moments.length !== count || full.late)
       throw new Error(`${count} are in an order, and it holds ${rest.moments.length}`);
-    if (all !== sorted.map((at) => `${(at ^ 1) + 7}:${at}`).join(" ")) throw new Error(`${count} are not in order`);
+    if (numbersOf(rest) !== sorted.map((at) => `${(at ^ 1) + 7}:${at}`).join(" "))
+      throw new Error(`${count} are not in order`);
     full.close();
   }
 }
@@ -804,6 +824,7 @@ async function refusals() {
   piecesOfBytes();
   piecesOfText();
   formatsOfSources();
+  unitsOfTimestamps();
   feedsInPieces();
   largeFeeds();
   liveFeeds();

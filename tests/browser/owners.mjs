@@ -58,7 +58,7 @@ const OWNERS = {
   },
   Order: {
     make: (settings = {}) => new Order(library, settings.reorder ?? 1000),
-    calls: { take: [MANY, FRAMES], flush: [], held: null, close: [] },
+    calls: { take: [MANY, FRAMES], flush: [], held: null, late: null, close: [] },
     refused: { take: [[[5n], FRAMES], [[-1], BYTES], [[5n], "x"]] },
     unmade: [{ reorder: -1 }, { reorder: "x" }],
   },

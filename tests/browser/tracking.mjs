@@ -186,8 +186,8 @@ function sharedMemory() {
 
 /** By default a gap above ten minutes is a jump. */
 function usualLeap() {
-  for (const [at, count] of [[600_005, 2], [600_006, 1]]) {
-    const feed = new Feed(library), lines = `5 ${FRAME}\n${at} ${FRAME}\n`;
+  for (const [at, count] of [[600_006, 3], [600_007, 2]]) {
+    const feed = new Feed(library), lines = [5, 6, at].map((moment) => `${moment} ${FRAME}\n`).join("");
     same(feed.takeText(new TextEncoder().encode(lines)).split("\n").length - 1, count, `a gap to ${at}`);
     feed.close();
   }
