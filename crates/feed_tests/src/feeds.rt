@@ -184,14 +184,15 @@ fn each_item_is_counted_once(rt: HostRuntime) {
         0,
         &mut text,
     );
-    // a clock that jumps by two days
+    // a clock that jumps by two days, which the frame after it does not confirm
     push_lines(
         &mut feed,
         b"\x1a3\x02\0\0\0\0\0\x80\x8d\x48\x40\xd6\x20\x2c\xc3\x71\xc3\x2c\xe0\x57\x60\x98",
         0,
         &mut text,
     );
-    assert!(rt; counts_of(&feed.counts()) == [7, 1, 1, 1, 1, 1, 1, 1]);
+    push_lines(&mut feed, BEAST, 0, &mut text);
+    assert!(rt; counts_of(&feed.counts()) == [9, 2, 2, 1, 1, 1, 1, 1]);
 }
 
 #[test]

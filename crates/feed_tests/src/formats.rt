@@ -19,6 +19,12 @@ fn number(feed: &Feed) -> usize {
             Some(Stranger::Utf16) => 8,
             Some(Stranger::Json) => 9,
             Some(Stranger::NoFrame) => 10,
+            Some(Stranger::Semicolons) => 11,
+            Some(Stranger::Tabs) => 12,
+            Some(Stranger::NoTime) => 13,
+            Some(Stranger::NoRawmsg) => 14,
+            Some(Stranger::NoSeconds) => 15,
+            Some(Stranger::NoNames) => 16,
         },
     }
 }
@@ -135,6 +141,105 @@ fn text_is_found(rt: HostRuntime) {
 }
 
 #[test]
+fn text_is_found_behind_other_text(rt: HostRuntime) {
+    let line = "0 8D4840D6202CC371C32CE0576098\n";
+    assert!(rt; holds(b"\r*8D4840D6202CC371C32CE0576098;\n", line, 1, 0));
+    assert!(rt; holds(b"\r8D4840D6202CC371C32CE0576098\r\n", line, 1, 0));
+    assert!(rt;
+        holds(
+            b"\xEF\xBB\xBF  *8D4840D6202CC371C32CE0576098;\n",
+            line,
+            1,
+            1
+        )
+    );
+    assert!(rt; holds(b"rx1 *8D4840D6202CC371C32CE0576098;", line, 4, 1));
+    // The name before the colon and the space behind it are damage, on each line.
+    let clocked =
+        b"rx1: @000000B71B008D4840D6202CC371C32CE0576098;\nrx1: @0000016E36008D4840D6202CC371C32CE0576098;\n";
+    assert!(rt; holds(clocked, TWO, 1, 4));
+    // JSON, SBS and a table do not outweigh it, before it or on its line.
+    assert!(rt;
+        holds(
+            b"{\"now\":1}\n *8D4840D6202CC371C32CE0576098;\n",
+            line,
+            1,
+            3
+        )
+    );
+    assert!(rt; holds(b"{}*8D4840D6202CC371C32CE0576098;\n", line, 1, 1));
+    assert!(rt; holds(b"MSG,3,*8D4840D6202CC371C32CE0576098;\n", line, 1, 1));
+    assert!(rt;
+        holds(
+            b"time;rawmsg\n\t*8D4840D6202CC371C32CE0576098;\n",
+            line,
+            1,
+            3
+        )
+    );
+    // A log is none of it. Four digits may be any number.
+    let log = b"1000 *8D4840D6202CC371C32CE0576098;\n2000 *8D4840D6202CC371C32CE0576098;\n";
+    assert!(rt; holds(log, TWO, 3, 0));
+    assert!(rt; holds(b"x *2040;\n", "", 10, 1));
+    // A line without a line feed counts once the bytes end that may show the format.
+    let mut feed = Feed::new(None, &RECORDED);
+    let mut text = TextBuffer::<1024>::new();
+    push_lines(
+        &mut feed,
+        b"x *8D4840D6202CC371C32CE0576098;\r",
+        0,
+        &mut text,
+    );
+    for _ in 0..16_350 {
+        push_lines(&mut feed, b"y", 0, &mut text);
+    }
+    assert!(rt; number(&feed) == 4);
+    push_lines(&mut feed, b"y", 0, &mut text);
+    assert!(rt; number(&feed) == 1 && text.as_str() == line);
+}
+
+#[test]
+fn tables_that_are_not_read_are_told(rt: HostRuntime) {
+    assert!(rt;
+        holds(
+            b"time;icao24;rawmsg\n1.5;x;8D4840D6202CC371C32CE0576098\n",
+            "",
+            11,
+            1
+        )
+    );
+    assert!(rt; holds(b"1,5;x;8D4840D6202CC371C32CE0576098\r\n", "", 11, 1));
+    assert!(rt; holds(b"\xEF\xBB\xBF\"RawMsg\" ;\"time\"", "", 11, 1));
+    assert!(rt; holds(b"1.5\tx\t5D4840D6F83D31\n", "", 12, 1));
+    assert!(rt;
+        holds(
+            b"rawmsg,icao24\n8D4840D6202CC371C32CE0576098,4840D6\n",
+            "",
+            13,
+            1
+        )
+    );
+    assert!(rt; holds(b"MinTime,icao24,lat\n1.5,4840D6,52.25\n", "", 14, 1));
+    assert!(rt; holds(b"1700000000000,x,8D4840D6202CC371C32CE0576098\n", "", 15, 1));
+    assert!(rt;
+        holds(
+            b"2023-11-14T22:13:20Z,x,8D4840D6202CC371C32CE0576098\n",
+            "",
+            15,
+            1
+        )
+    );
+    assert!(rt; holds(b"1.5,8D4840D6202CC371C32CE0576098\n", "", 16, 1));
+    // None of these.
+    assert!(rt; holds(b"time,lat\nicao24,lat\n1.5;2040\n", "", 10, 1));
+    // The first one decides, and none outweighs a row that is read.
+    assert!(rt; holds(b"rawmsg\n1.5;rawmsg\n{}\n", "", 13, 1));
+    let read =
+        b"icao24;rawmsg\n1,x,8D4840D6202CC371C32CE0576098\n2,x,8D4840D6202CC371C32CE0576098\n";
+    assert!(rt; holds(read, TWO, 2, 1));
+}
+
+#[test]
 fn other_sources_are_told(rt: HostRuntime) {
     assert!(rt; holds(b"", "", 4, 0));
     assert!(rt; holds(b"MSG,3,1,1,4840D6\n{\"now\":1}\n", "", 5, 1));
@@ -175,13 +280,13 @@ fn tar_is_told(rt: HostRuntime) {
 
 #[test]
 fn a_source_shows_its_format_soon(rt: HostRuntime) {
-    for (blanks, shown) in [(16_375, 3), (16_376, 10)] {
+    for (blanks, shown) in [(16_376, 3), (16_377, 10)] {
         let mut feed = Feed::new(None, &RECORDED);
         let mut text = TextBuffer::<1024>::new();
         for _ in 0..blanks {
             push_lines(&mut feed, b"\n", 0, &mut text);
         }
-        // The 16,384th byte is the last that may show the format.
+        // The 16,384th byte is the last that may show the format. A line that has begun counts as it is.
         push_lines(&mut feed, b"1 *2040;\n", 0, &mut text);
         assert!(rt; number(&feed) == shown);
     }

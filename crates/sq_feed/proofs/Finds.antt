@@ -13,7 +13,8 @@ use Rattle.sq_feed.specs.Begun.{Begun, HoldWithRest, rest_of}
 use Rattle.sq_feed.specs.Finding.{Finds, HasShown, Lines, beast_of, byte_sign, first_shown, in_turn, in_turn_after, is_beast}
 use Rattle.sq_feed.specs.declared.message.Stranger.{Stranger}
 use Rattle.sq_feed.specs.Finding.{line_sign, marked_sign, start_sign}
-use Rattle.sq_feed.specs.Finding.{last_sign, limit, lines_after, named, shown_after, shown_by, sign_within}
+use Rattle.sq_feed.specs.Finding.{last_sign, limit, limit_sign, lines_after, named, remembered, shown_after, shown_by}
+use Rattle.sq_feed.specs.Finding.{sign_within}
 use Rattle.sq_feed.specs.Stream.{found_in}
 
 in_turn-append : (count : ℕ) (xs ys : List Found) → in_turn count (xs ++ ys) ≡ in_turn (in_turn count xs) ys
@@ -90,23 +91,35 @@ text_more old mid byte messages more same is few =
     (shown_by (beast_of mid) (lines_after old.text byte) more)))
     (lt-leb 2 (beast_of mid []) (subst (λ n. n < 2) is few))
 
+-- what is shown at the limit, by the sign of the line that has begun
+last_shown : (old new : Finds) (byte : ℕ) (last : Sign) (stranger : Stranger)
+    → ((more : List ℕ) → shown_after old (byte ∷ more) ≡ first_shown last (Other stranger))
+    → HasShown (first_shown last (Other stranger)) old (byte ∷ []) new
+last_shown old new byte Unclear stranger shows = shows
+last_shown old new byte (Shows format) stranger shows = shows
+last_shown old new byte (Other other) stranger shows = shows
+
+limit_shown : (old new : Finds) (byte : ℕ) → ((more : List ℕ) → shown_after old (byte ∷ more) ≡ limit_sign new.text)
+    → HasShown (limit_sign new.text) old (byte ∷ []) new
+limit_shown old new byte = last_shown old new byte (line_sign new.text.line)
+    (named (remembered new.text.stranger (line_sign new.text.line)))
+
 -- the sign of a byte and that of the limit, whatever they are
 by_signs : (old mid new : Finds) (byte : ℕ) (sign : Sign) (at_limit : Bool)
     → ((more : List ℕ) → shown_after old (byte ∷ more)
-    ≡ first_shown sign (if at_limit then Other (named new.text.stranger)
-    else shown_after new more))
-    → HasShown (first_shown sign (if at_limit then Other (named new.text.stranger) else Unclear)) old (byte ∷ []) new
-by_signs old mid new byte Unclear true shows = shows
+    ≡ first_shown sign (if at_limit then limit_sign new.text else shown_after new more))
+    → HasShown (first_shown sign (if at_limit then limit_sign new.text else Unclear)) old (byte ∷ []) new
+by_signs old mid new byte Unclear true shows = limit_shown old new byte shows
 by_signs old mid new byte Unclear false shows = shows
 by_signs old mid new byte (Shows format) at_limit shows = shows
-by_signs old mid new byte (Other stranger) true shows = shows
+by_signs old mid new byte (Other stranger) true shows = limit_shown old new byte shows
 by_signs old mid new byte (Other stranger) false shows = shows
 
 pub signs_shown : (old mid new : Finds) (byte messages : ℕ) (sign limit_is result : Sign)
     → ((q : List ℕ) → beast_of mid q ≡ beast_of old (byte ∷ q)) → messages ≡ beast_of mid [] → messages < 2
     → new.beast ≡ mid.beast → new.count ≡ mid.count → new.text ≡ lines_after old.text byte
     → new.text.count ≡ length new.held → sign ≡ byte_sign old.text byte
-    → limit_is ≡ (if length new.held == limit then Other (named new.text.stranger) else Unclear)
+    → limit_is ≡ (if length new.held == limit then limit_sign new.text else Unclear)
     → result ≡ first_shown sign limit_is
     → HasShown result old (byte ∷ []) new
 signs_shown old mid new byte messages sign limit_is result same is few beast count text held sign_is at is_result =
@@ -116,9 +129,9 @@ signs_shown old mid new byte messages sign limit_is result same is few beast cou
     text_more old mid byte messages more same is few
     ∙ ap₂ (λ (s : Sign) (t : Lines). first_shown s (sign_within t (shown_by (beast_of mid) t more))) (sym sign_is)
     (sym text)
-    ∙ ap (λ n. first_shown sign (if n == limit then Other (named new.text.stranger)
+    ∙ ap (λ n. first_shown sign (if n == limit then limit_sign new.text
     else shown_by (beast_of mid) new.text more)) held
-    ∙ ap (λ (s : Sign). first_shown sign (if length new.held == limit then Other (named new.text.stranger) else s))
+    ∙ ap (λ (s : Sign). first_shown sign (if length new.held == limit then limit_sign new.text else s))
     (shown_by-same (beast_of mid) (beast_of new) new.text more
     (λ q. ap₂ (λ (b : Begun) k. in_turn k (found_in (rest_of b ++ q))) (sym beast) (sym count)))))
 

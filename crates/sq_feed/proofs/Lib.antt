@@ -15,6 +15,7 @@ pub mod Positions
 pub mod PlainRows
 pub mod Tallies
 pub mod Finds
+pub mod Framed
 pub mod Sourced
 pub mod Ordering
 pub mod Rising

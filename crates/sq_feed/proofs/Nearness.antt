@@ -1,5 +1,5 @@
 -- Timestamps that stay near the latest one.
-use Rattle.std.proofs.Common.{◌≡◌, ◌≤◌, ◌-◌, ◌∙◌, ◌++◌, ℕ, Bool, true, false, List, [], ◌∷◌, ap, arith, max, nat_le, refl, subst₂, sym}
+use Rattle.std.proofs.Common.{◌≡◌, ◌≤◌, ◌-◌, ◌%◌, ◌∙◌, ◌++◌, ℕ, Bool, true, false, List, [], ◌∷◌, ap, arith, max, nat_le, refl, subst₂, sym}
 use Rattle.std.specs.Prelude.{Option, Some, None, if◌then◌else◌}
 use Rattle.std.proofs.lemmas.Bool.Decides.{nat_tests}
 use Rattle.sq_feed.specs.declared.counts.Fate.{Fate}
@@ -10,11 +10,12 @@ use Rattle.sq_feed.specs.declared.message.Message.{Message}
 use Rattle.sq_feed.specs.declared.message.Time.{Time}
 use Rattle.sq_feed.specs.declared.message.Time.TheVariants.{Unknown, Ticks, Millis}
 use Rattle.sq_feed.specs.declared.message.Timed.{Timed}
-use Rattle.sq_feed.specs.Dates.{ended, gone_all, own, timed_all}
-use Rattle.sq_feed.specs.Ears.{AreNear, Hears, StaysNear, StaysNearAtEnd, ear_after, ear_after_all, ear_at, ear_by}
-use Rattle.sq_feed.specs.Ears.{fate_of, latest_told, row_judged, told_at, told_by, told_of, told_of_all, whole_of}
-use Rattle.sq_feed.specs.Times.{Timing, by_arrival, by_clock, by_ticks, clock_after, clock_moment, due, gone_on}
-use Rattle.sq_feed.specs.Times.{is_clock_told, is_clockless, is_ticks_told, ticks_moment, told_as}
+use Rattle.sq_feed.specs.Clock.{turn}
+use Rattle.sq_feed.specs.Dates.{ended, gone_all, is_calm, own, timed_all}
+use Rattle.sq_feed.specs.Ears.{AreNear, Hears, StaysNear, StaysNearAtEnd, clock_judged, ear_after, ear_after_all}
+use Rattle.sq_feed.specs.Ears.{ear_arrived, ear_at, ear_by, ear_clocked, fate_of, latest_told, row_judged, told_arrived}
+use Rattle.sq_feed.specs.Ears.{told_at, told_by, told_clocked, told_of, told_of_all, whole_of}
+use Rattle.sq_feed.specs.Times.{Timing, clocked, due, gone_on, is_clockless, told_as}
 
 -- These frames have timestamps, and this is the state after them.
 record Goes (late latest : ℕ) (told : List Timed) (new : Timing) : Type 0 where
@@ -39,33 +40,6 @@ gone t moment arrival frame = by_test (nat_le t.latest moment) t moment arrival 
 
 stays : (t : Timing) → Goes t.late t.latest [] t
 stays t = record { near = tt; late_is = refl; latest_is = refl }
-
--- ---- one frame
-
-goes_if : (b : Bool) (late latest : ℕ) (told : List Timed) (x y : Timing) → Goes late latest told x
-    → Goes late latest [] y → Goes late latest (if b then told else []) (if b then x else y)
-goes_if true late latest told x y p q = p
-goes_if false late latest told x y p q = q
-
-clock_goes : (c : Bool) (t : Timing) (ticks arrival : ℕ) (frame : List ℕ)
-    → Goes t.late t.latest
-    (if (if c then true else is_clock_told t ticks arrival)
-    then record { moment = told_as t (if c then due t arrival else clock_moment t ticks arrival); frame = frame } ∷ []
-    else []) (if c then by_arrival t arrival else by_clock t ticks arrival)
-clock_goes true t ticks arrival frame = gone t (due t arrival) arrival frame
-clock_goes false t ticks arrival frame =
-    let aside = record t { clock = clock_after t ticks arrival } in
-    let heard = record aside { read_at = arrival } in
-    let moment = clock_moment t ticks arrival in
-    goes_if (is_clock_told t ticks arrival) t.late t.latest (record { moment = told_as t moment; frame = frame } ∷ [])
-    (gone_on heard moment arrival) aside (gone heard moment arrival frame) (stays aside)
-
-ticks_goes : (ticks : ℕ) (t : Timing) (arrival : ℕ) (frame : List ℕ)
-    → Goes t.late t.latest
-    (if is_ticks_told t ticks arrival
-    then record { moment = told_as t (ticks_moment t ticks arrival); frame = frame } ∷ [] else [])
-    (by_ticks t ticks arrival)
-ticks_goes ticks t arrival frame = clock_goes (is_clockless t ticks) t ticks arrival frame
 
 -- ---- several frames
 
@@ -96,14 +70,32 @@ rows_go (one ∷ more) d arrival t =
     goes_more (record { moment = told_as t moment; frame = one.frame } ∷ []) (timed_all d arrival next more) t.late
     t.latest next (gone_all d arrival next more) (gone t moment arrival one.frame) (rows_go more d arrival next)
 
+-- a frame with a clock, whose time is believed or not
+clock_goes : (b : Bool) (told : List Timed) (d : Dates) (t : Timing) (shown arrival : ℕ)
+    → Goes t.late t.latest (timed_all d arrival (if b then clocked t shown arrival else t) told)
+    (gone_all d arrival (if b then clocked t shown arrival else t) told)
+clock_goes true told d t shown arrival = rows_go told d arrival (clocked t shown arrival)
+clock_goes false told d t shown arrival = rows_go told d arrival t
+
 -- ---- items
+
+ticks_goes : (b : Bool) (shown arrival : ℕ) (ear : Hears) (frame : List ℕ)
+    → Goes ear.times.late ear.times.latest (if b then told_arrived arrival ear frame
+    else told_clocked ear shown arrival (clock_judged ear shown arrival frame))
+    (if b then ear_arrived arrival ear
+    else ear_clocked ear shown arrival (clock_judged ear shown arrival frame)).times
+ticks_goes true shown arrival ear frame = gone ear.times (due ear.times arrival) arrival frame
+ticks_goes false shown arrival ear frame =
+    let judged = clock_judged ear shown arrival frame in
+    clock_goes (is_calm judged.after) judged.told judged.after ear.times shown arrival
 
 time_goes : (time : Time) (arrival : ℕ) (ear : Hears) (frame : List ℕ)
     → Goes ear.times.late ear.times.latest (told_at time arrival ear frame) (ear_at time arrival ear frame).times
 time_goes Unknown arrival ear frame = gone ear.times (due ear.times arrival) arrival frame
-time_goes (Ticks ticks) arrival ear frame = ticks_goes ticks ear.times arrival frame
+time_goes (Ticks ticks) arrival ear frame =
+    ticks_goes (is_clockless ear.times ticks) (ticks % turn) arrival ear frame
 time_goes (Millis moment) arrival ear frame =
-    let row = row_judged ear moment frame in rows_go row.told row.after arrival ear.times
+    let row = row_judged ear moment arrival frame in rows_go row.told row.after arrival ear.times
 
 fate_goes : (fate : Option Fate) (arrival : ℕ) (ear : Hears) (message : Message)
     → Goes ear.times.late ear.times.latest (told_by fate arrival ear message) (ear_by fate arrival ear message).times

@@ -1,29 +1,34 @@
 -- What is sent in a format is found in that format.
-use Rattle.std.proofs.Common.{◌≡◌, ◌≢◌, ◌+◌, ◌*◌, ◌<◌, ◌≤◌, ◌++◌, ◌∙◌, ℕ, Bool, true, false, List, [], ◌∷◌, length, map, take, drop, refl, sym, ap, ap₂, arith, subst}
+use Rattle.std.proofs.Common.{◌≡◌, ◌≢◌, ◌+◌, ◌*◌, ◌<◌, ◌≤◌, ◌++◌, ◌∙◌, ◌⊎◌, ℕ, Bool, true, false, List, [], ◌∷◌, length, map, take, drop, refl, sym, ap, ap₂, arith, subst, inl, inr}
 use Rattle.std.proofs.Common.{append_assoc, append-nil, length-append}
 use Rattle.std.proofs.lemmas.Bool.{eq-eqb, eqb-true, false≢true, ne_eqb, true≢false}
 use Rattle.std.specs.List.{AllByRecursion, flat_map}
-use Rattle.std.specs.Prelude.{◌==◌, ◌&&◌, Option, Some, None, bytes_eq, if◌then◌else◌, slice_index}
+use Rattle.std.specs.Prelude.{◌==◌, ◌&&◌, not, Option, Some, None, bytes_eq, if◌then◌else◌, slice_index}
 use Rattle.sq_feed.specs.declared.avr.Mark.{Mark}
 use Rattle.sq_feed.specs.declared.avr.Mark.TheVariants.{Plain as PlainMark, Clocked, Signalled}
 use Rattle.sq_feed.specs.declared.machine.Format.{Format}
 use Rattle.sq_feed.specs.declared.machine.Format.TheVariants.{Avr, Beast}
 use Rattle.sq_feed.specs.declared.message.Found.{Found}
+use Rattle.sq_feed.specs.declared.message.Found.TheVariants.{Damage, Foreign, ReceiverId as IdFound, Whole}
 use Rattle.sq_feed.specs.declared.message.Kind.TheVariants.{Message, Status, ReceiverId, Unknown}
 use Rattle.sq_feed.specs.declared.message.Size.{Size}
 use Rattle.sq_feed.specs.declared.message.Size.TheVariants.{TwoBytes, SevenBytes, FourteenBytes}
 use Rattle.sq_feed.specs.declared.message.Stranger.{Stranger}
 use Rattle.sq_feed.specs.declared.message.Stranger.TheVariants.{Packed, Tar, Utf16}
+use Rattle.sq_feed.specs.declared.rows.Layout.TheVariants.{Log as LogLayout}
 use Rattle.sq_feed.specs.declared.signs.Sign.{Sign}
 use Rattle.sq_feed.specs.declared.signs.Sign.TheVariants.{Unclear, Shows, Other}
-use Rattle.sq_feed.specs.Avr.{AreHex, AvrSent, IsSent, avr_found, is_hex, lead, mark_of, sent_text}
+use Rattle.sq_feed.specs.Avr.{AreHex, AvrSent, IsSent, avr_found, is_hex, item_of, lead, mark_of, sent_text}
 use Rattle.sq_feed.specs.Begun.{type_byte}
-use Rattle.sq_feed.specs.Finding.{Lines, any_found, byte_sign, first_shown, in_turn, is_beast, is_known}
-use Rattle.sq_feed.specs.Finding.{is_packed, is_tar, is_utf16, items_shown, line_sign, lines_after, marked_sign, named, shown_by}
-use Rattle.sq_feed.specs.Finding.{sign_by_mark, sign_of_item, sign_of_word, sign_within, start_sign}
+use Rattle.sq_feed.specs.Finding.{Lines, any_found, byte_sign, first_shown, has_frame, in_turn, is_beast, is_known}
+use Rattle.sq_feed.specs.Finding.{is_packed, is_tar, is_utf16, items_shown, limit_sign, line_sign, lines_after, marked_sign}
+use Rattle.sq_feed.specs.Finding.{other_sign, shown_by, sign_by_mark, sign_of_item, sign_of_line, sign_of_row, sign_of_word, sign_within}
+use Rattle.sq_feed.specs.Finding.{start_sign, text_sign}
 use Rattle.sq_feed.specs.Kinds.{frame_len, kind_of}
 use Rattle.sq_feed.specs.Laws.{sent_bytes}
-use Rattle.sq_feed.specs.Shown.{BeastIsShown, LineIsShown, SentBeastIsShown, SentTextIsShown}
+use Rattle.sq_feed.specs.Rows.{csv_start, row_read, without_mark}
+use Rattle.sq_feed.specs.Shown.{AvrLineIsShown, BeastIsShown, IsAvrLine, LineIsShown, SentBeastIsShown, SentTextIsShown}
+use Rattle.sq_feed.specs.Tables.{is_row_of}
 use Rattle.sq_feed.specs.Stream.{Byte, Symbol, doubled, escape, found_in, found_of, stray, symbols_from}
 use Rattle.sq_feed.proofs.Finds.{shown_by-same}
 use Rattle.sq_feed.proofs.Readings.{no_start, run_bytes}
@@ -117,6 +122,10 @@ starts_nothing start rest other =
 abbrev Text : List ℕ → Option Stranger → Lines
 Text line stranger = record { line = line; count = length line; stranger = stranger }
 
+-- the line before a semicolon shows nothing or this format
+abbrev IsQuietOr : Format → List ℕ → Type 0
+IsQuietOr format line = (marked_sign line ≡ Unclear) ⊎ (marked_sign line ≡ Shows format)
+
 -- a byte of the first line that shows nothing
 quiet_byte : (line : List ℕ) (byte : ℕ) (stranger : Option Stranger) (rest : Sign) → byte ≢ 10
     → (byte ≡ 59 → marked_sign line ≡ Unclear) → slice_index (line ++ byte ∷ []) 0 ≢ escape
@@ -134,15 +143,36 @@ quiet_byte line byte stranger rest other unmarked first =
         (eq-eqb (length line) (length line) refl)
         ∙ starts_nothing (line ++ byte ∷ []) rest first
 
+-- what a source shows if a marked frame shows it at this byte, or the bytes to come show it
+next_shown : (line : List ℕ) (byte : ℕ) (stranger : Option Stranger) (rest : Sign) (format : Format) → byte ≢ 10
+    → (byte ≡ 59 → IsQuietOr format line) → slice_index (line ++ byte ∷ []) 0 ≢ escape → rest ≡ Shows format
+    → first_shown (byte_sign (Text line stranger) byte) rest ≡ Shows format
+next_shown line byte stranger rest format other mark first shows = by (byte == 59) refl
+  where
+    quiet : (byte ≡ 59 → marked_sign line ≡ Unclear) → first_shown (byte_sign (Text line stranger) byte) rest
+        ≡ Shows format
+    quiet unmarked = quiet_byte line byte stranger rest other unmarked first ∙ shows
+
+    at_mark : byte ≡ 59 → IsQuietOr format line
+        → first_shown (byte_sign (Text line stranger) byte) rest ≡ Shows format
+    at_mark is (inl none) = quiet (λ e. none)
+    at_mark is (inr marked) =
+        ap (λ b. first_shown (byte_sign (Text line stranger) b) rest) is
+        ∙ ap (λ (s : Sign). first_shown s rest) marked
+
+    by : (t : Bool) → (byte == 59) ≡ t → first_shown (byte_sign (Text line stranger) byte) rest ≡ Shows format
+    by true is = at_mark (eqb-true byte 59 is) (mark (eqb-true byte 59 is))
+    by false is = quiet (λ e. absurd (true≢false (sym (eq-eqb byte 59 e) ∙ is)))
+
 first_of : (line : List ℕ) (byte : ℕ) → Plain line → byte ≢ escape → slice_index (line ++ byte ∷ []) 0 ≢ escape
 first_of [] byte plain other = other
 first_of (x ∷ line) byte (is, plain) other = is
 
 -- what a source shows whose first line shows its format at this byte
 shown_at : (line front more : List ℕ) (byte : ℕ) (stranger : Option Stranger) (format : Format)
-    → length line + length front < 16383 → Plain (line ++ front) → byte ≢ escape
+    → length line + length front < 16384 → Plain (line ++ front) → byte ≢ escape
     → AllByRecursion (λ b. b ≢ 10) front
-    → ((before back : List ℕ) → front ≡ before ++ 59 ∷ back → marked_sign (line ++ before) ≡ Unclear)
+    → ((before back : List ℕ) → front ≡ before ++ 59 ∷ back → IsQuietOr format (line ++ before))
     → ((s : Option Stranger) → byte_sign (Text (line ++ front) s) byte ≡ Shows format)
     → shown_by (λ q. in_turn 0 (found_in (line ++ q))) (Text line stranger) (front ++ byte ∷ more) ≡ Shows format
 shown_at line [] more byte stranger format few plain other lines unmarked shows =
@@ -165,9 +195,9 @@ shown_at line (x ∷ front) more byte stranger format few plain other (is, lines
     else first_shown (byte_sign (Text line stranger) x) (sign_within after
     (shown_by (λ q. in_turn 0 (found_in (line ++ x ∷ q))) after (front ++ byte ∷ more))))
     (no_message (line ++ x ∷ []) all)
-    ∙ quiet_byte line x stranger _ is (λ e. subst (λ l. marked_sign l ≡ Unclear) (append-nil line)
+    ∙ next_shown line x stranger _ format is (λ e. subst (IsQuietOr format) (append-nil line)
     (unmarked [] front (ap (λ b. b ∷ front) e))) (first_of line x parts.0 parts.1.0)
-    ∙ ap (λ (t : Bool). if t then Other (named after.stranger)
+    (ap (λ (t : Bool). if t then limit_sign after
     else shown_by (λ q. in_turn 0 (found_in (line ++ x ∷ q))) after (front ++ byte ∷ more))
     (ne_eqb (length line + 1) 16384 (λ e. absurd (omega (arith, e, few))))
     ∙ ap₂ (λ l n. shown_by (λ q. in_turn 0 (found_in (line ++ x ∷ q)))
@@ -178,9 +208,9 @@ shown_at line (x ∷ front) more byte stranger format few plain other (is, lines
     (λ q. ap (λ l. in_turn 0 (found_in l)) (sym (append_assoc line (x ∷ []) q)))
     ∙ shown_at (line ++ x ∷ []) front more byte after.stranger format (omega (arith, few, size))
     (subst Plain (sym onward) plain) other lines
-    (λ before back split. subst (λ l. marked_sign l ≡ Unclear) (sym (append_assoc line (x ∷ []) before))
+    (λ before back split. subst (IsQuietOr format) (sym (append_assoc line (x ∷ []) before))
     (unmarked (x ∷ before) back (ap (λ l. x ∷ l) split)))
-    (λ s. subst (λ l. byte_sign (Text l s) byte ≡ Shows format) (sym onward) (shows s))
+    (λ s. subst (λ l. byte_sign (Text l s) byte ≡ Shows format) (sym onward) (shows s)))
   where
     plain_parts : (xs ys : List ℕ) → Plain (xs ++ ys) → Plain xs × Plain ys
     plain_parts [] ys all = (tt, all)
@@ -190,7 +220,43 @@ pub line_is_shown : LineIsShown
 line_is_shown line more format text sign =
     ap (λ (s : Sign). items_shown s (line ++ 10 ∷ more))
     (shown_at [] line more 10 None format (omega (arith, text.short)) text.plain (λ e. absurd (omega (arith, e)))
-    text.one_line text.unmarked (λ s. sign))
+    text.one_line (λ before back split. inl (text.unmarked before back split)) (λ s. sign))
+
+-- ---- a line of AVR text
+
+quiet_item : (item : Found) → (sign_of_item item ≡ Unclear) ⊎ (sign_of_item item ≡ Shows Avr)
+quiet_item (Whole message) = inr refl
+quiet_item Damage = inl refl
+quiet_item IdFound = inl refl
+quiet_item (Foreign stranger) = inl refl
+
+-- a marked frame shows AVR text alone
+quiet_mark : (line : List ℕ) → IsQuietOr Avr line
+quiet_mark line = by_word (without_mark line)
+  where
+    by_mark : (mark : Option Mark) (word : List ℕ) → (sign_by_mark mark word ≡ Unclear)
+        ⊎ (sign_by_mark mark word ≡ Shows Avr)
+    by_mark (Some mark) word = quiet_item (item_of mark word)
+    by_mark None word = inl refl
+
+    by_word : (word : List ℕ) → (sign_of_word word ≡ Unclear) ⊎ (sign_of_word word ≡ Shows Avr)
+    by_word [] = inl refl
+    by_word (first ∷ word) = by_mark (mark_of first) word
+
+avr_line_sign : (line : List ℕ) → IsAvrLine line → line_sign line ≡ Shows Avr
+unfolding line_sign
+avr_line_sign line is =
+    ap (λ (s : Sign). first_shown s (first_shown (sign_of_row (row_read csv_start line))
+    (first_shown (text_sign line) (other_sign (without_mark line))))) is.no_log
+    ∙ ap (λ (s : Sign). first_shown s (first_shown (text_sign line) (other_sign (without_mark line)))) is.no_row
+    ∙ ap₂ (λ (a b : Bool). first_shown (if not a && b then Shows Avr else Unclear) (other_sign (without_mark line)))
+    is.no_semicolons is.framed
+
+pub avr_line_is_shown : AvrLineIsShown
+avr_line_is_shown line more is =
+    ap (λ (s : Sign). items_shown s (line ++ 10 ∷ more))
+    (shown_at [] line more 10 None Avr (omega (arith, is.short)) is.plain (λ e. absurd (omega (arith, e))) is.one_line
+    (λ before back split. quiet_mark before) (λ s. avr_line_sign line is))
 
 -- ---- a marked frame
 
@@ -250,6 +316,37 @@ sent_text_is_shown sent more is =
     (unlike sent.first escape sent.mark is.is_mark refl, each_unlike sent.digits escape is.hex refl)
     (λ e. absurd (omega (arith, e)))
     (unlike sent.first 10 sent.mark is.is_mark refl, each_unlike sent.digits 10 is.hex refl)
-    (λ before back split. absurd (occurs_not word before back 59 semicolons split))
+    (λ before back split. quiet_mark before)
     (λ s. marked_is_shown sent is))
     ∙ ap avr_found (sym shape)
+
+-- ---- examples
+
+abbrev pub lacks : ℕ → List ℕ → Bool
+lacks byte [] = true
+lacks byte (b ∷ text) = not (b == byte) && lacks byte text
+
+each_other : (byte : ℕ) (text : List ℕ) → lacks byte text ≡ true → AllByRecursion (λ b. b ≢ byte) text
+each_other byte [] all = tt
+each_other byte (b ∷ text) all = by (b == byte) (lacks byte text) refl all (λ more. each_other byte text more) refl
+  where
+    by : (t u : Bool) → (b == byte) ≡ t → (not t && u) ≡ true
+        → (lacks byte text ≡ true → AllByRecursion (λ x. x ≢ byte) text) → lacks byte text ≡ u
+        → (b ≢ byte) × AllByRecursion (λ x. x ≢ byte) text
+    by false true is _ others more = (λ e. true≢false (sym (eq-eqb b byte e) ∙ is), others more)
+    by false false _ none _ _ = absurd (false≢true none)
+    by true u _ none _ _ = absurd (false≢true none)
+
+-- a line of bytes that are known
+pub avr_line : (line : List ℕ) → length line < 16384 → lacks 10 line ≡ true → lacks escape line ≡ true
+    → sign_of_line (row_read LogLayout line) ≡ Unclear → sign_of_row (row_read csv_start line) ≡ Unclear
+    → is_row_of 59 line ≡ false → has_frame (avr_found line) ≡ true → IsAvrLine line
+avr_line line few feeds escapes log row semicolons frame = record {
+  short = few;
+  one_line = each_other 10 line feeds;
+  plain = each_other escape line escapes;
+  no_log = log;
+  no_row = row;
+  no_semicolons = semicolons;
+  framed = frame;
+}

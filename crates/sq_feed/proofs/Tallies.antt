@@ -1,5 +1,5 @@
 -- Counts of items, in order.
-use Rattle.std.proofs.Common.{◌≡◌, ◌+◌, ◌-◌, ◌^◌, ◌<◌, ◌≤◌, ◌++◌, ℕ, Bool, true, false, not, List, [], ◌∷◌, length, ap, sym, refl, subst, arith}
+use Rattle.std.proofs.Common.{◌≡◌, ◌+◌, ◌-◌, ◌^◌, ◌<◌, ◌≤◌, ◌++◌, ◌%◌, ℕ, Bool, true, false, not, List, [], ◌∷◌, length, ap, sym, refl, subst, arith}
 use Rattle.std.proofs.Common.{length-append}
 use Rattle.std.specs.Prelude.{◌==◌, ◌&&◌, nat_lt, Option, Some, None, if◌then◌else◌}
 use Rattle.std.proofs.lemmas.Bool.{ne_eqb}
@@ -8,9 +8,9 @@ use Rattle.sq_feed.specs.declared.counts.Fate.{Fate}
 use Rattle.sq_feed.specs.declared.counts.Fate.TheVariants.{Written, OtherFormat, ModeAc, Multilaterated, Damaged, Aside, ReceiverId as IdFate}
 use Rattle.sq_feed.specs.declared.dates.Dates.{Dates}
 use Rattle.sq_feed.specs.declared.dates.First.{First}
-use Rattle.sq_feed.specs.declared.dates.First.TheVariants.{NoRow, Waits, Believed}
+use Rattle.sq_feed.specs.declared.dates.First.TheVariants.{NoTime, Waits, Believed}
 use Rattle.sq_feed.specs.declared.dates.Run.{Run}
-use Rattle.sq_feed.specs.declared.dates.Run.TheVariants.{Empty, One, Two}
+use Rattle.sq_feed.specs.declared.dates.Run.TheVariants.{Empty, One, Two, Torn}
 use Rattle.sq_feed.specs.declared.message.Found.{Found}
 use Rattle.sq_feed.specs.declared.message.Found.TheVariants.{Whole, Damage, Foreign, ReceiverId}
 use Rattle.sq_feed.specs.declared.message.Message.{Message}
@@ -20,13 +20,15 @@ use Rattle.sq_feed.specs.declared.message.Time.{Time}
 use Rattle.sq_feed.specs.declared.message.Time.TheVariants.{Unknown, Ticks, Millis}
 use Rattle.sq_feed.specs.declared.message.Timed.{Timed}
 use Rattle.sq_feed.specs.Counts.{Tally, counted, counted_as, counted_rows}
-use Rattle.sq_feed.specs.Dates.{Judged, believes, confirmed, ended, ended_at, ended_run, first_waiting, follows}
-use Rattle.sq_feed.specs.Dates.{is_ahead, is_fit, judged, judged_at, judged_later, longer_run, own, run_waiting, shifted}
-use Rattle.sq_feed.specs.Dates.{timed_all, waiting}
-use Rattle.sq_feed.specs.Ears.{CountsAtEnd, CountsEach, Hears, ear_after, ear_at, ear_by, fate_of, format_of}
-use Rattle.sq_feed.specs.Ears.{is_multilaterated, row_judged, told_at, told_by, told_of}
-use Rattle.sq_feed.specs.Ears.{told_of_all, whole_of}
-use Rattle.sq_feed.specs.Times.{Timing, gone_on, is_ticks_told, ticks_moment, told_as}
+use Rattle.sq_feed.specs.Dates.{Judged, believes, confirmed, confirmed_by, ended, ended_at, ended_run, first_waiting}
+use Rattle.sq_feed.specs.Dates.{follows, is_ahead, is_beside, is_fit, joined, judged, judged_at, judged_later, longer_run, own, replaced}
+use Rattle.sq_feed.specs.Dates.{run_waiting, shifted, started, timed_all, waiting, waits}
+use Rattle.sq_feed.specs.Clock.{turn}
+use Rattle.sq_feed.specs.Ears.{CountsAtEnd, CountsEach, Hears, clock_judged, clock_one, ear_after, ear_arrived, ear_at}
+use Rattle.sq_feed.specs.Ears.{ear_by, ear_clocked, ear_judged, fate_of, format_of, is_multilaterated, row_judged}
+use Rattle.sq_feed.specs.Ears.{told_arrived, told_at, told_by, told_clocked, told_judged, told_of, told_of_all, whole_of}
+use Rattle.sq_feed.specs.Ears.{with_clock, with_row}
+use Rattle.sq_feed.specs.Times.{Timing, gone_on, is_clockless}
 
 -- ---- rows
 
@@ -39,43 +41,78 @@ if_balances : (b : Bool) (x y : Judged) (count : ℕ) → Balances x count → B
 if_balances true x y count p q = p
 if_balances false x y count p q = q
 
-confirmed_balances : (t : Timing) (d : Dates) (one : Timed) (run : List Timed)
-    → Balances (confirmed t d one run) (length (first_waiting d.first) + length run)
-confirmed_balances t d one run =
-    if_balances (is_ahead t d one) (believes d (first_waiting d.first ++ run) [])
-    (believes (shifted t d one) run (first_waiting d.first)) (length (first_waiting d.first) + length run)
-    (omega (arith, length-append (first_waiting d.first) run)) (omega arith)
+confirmed_balances : (t : Timing) (d : Dates) (arrival : ℕ) (one : Timed) (told : List Timed) (run : Run)
+    → Balances (confirmed t d arrival one told run)
+    (length (first_waiting d.first) + length told + length (run_waiting run))
+confirmed_balances t d arrival one told run =
+    if_balances (is_ahead t d one) (believes d run (first_waiting d.first ++ told) [])
+    (believes (shifted t d arrival one) run told (first_waiting d.first))
+    (length (first_waiting d.first) + length told + length (run_waiting run))
+    (omega (arith, length-append (first_waiting d.first) told)) (omega arith)
 
-run_balances : (run : Run) (t : Timing) (d : Dates) (one : Timed)
-    → Balances (longer_run run t d one) (length (first_waiting d.first) + length (run_waiting run) + 1)
-run_balances Empty t d one = omega (arith, length-append (first_waiting d.first) (one ∷ []))
-run_balances (One a) t d one = omega (arith, length-append (first_waiting d.first) (a ∷ one ∷ []))
-run_balances (Two a b) t d one =
-    let is = confirmed_balances t d a (a ∷ b ∷ one ∷ []) in omega (arith, is)
+-- frames wait as a run, and others are left out
+waits_balances : (d : Dates) (run : Run) (aside : List Timed)
+    → Balances (waits d run aside) (length (first_waiting d.first) + length (run_waiting run) + length aside)
+waits_balances d run aside = omega (arith, length-append (first_waiting d.first) (run_waiting run))
 
-later_balances : (t : Timing) (d : Dates) (one : Timed)
-    → Balances (judged_later t d one) (length (first_waiting d.first) + length (run_waiting d.run) + 1)
-later_balances t d one =
-    let count = length (first_waiting d.first) + length (run_waiting d.run) + 1 in
-    let jump : Judged = record { after = record d { run = One one }; told = []; aside = length (run_waiting d.run) } in
-    let longer = longer_run d.run t d one in
-    if_balances (is_fit t d one.moment) (believes d (first_waiting d.first ++ one ∷ []) (run_waiting d.run))
-    (if follows t d one.moment then longer else jump) count
-    (omega (arith, length-append (first_waiting d.first) (one ∷ [])))
-    (if_balances (follows t d one.moment) longer jump count (run_balances d.run t d one)
-    (omega (arith, length-append (first_waiting d.first) (one ∷ []))))
+joined_two : (b : Bool) (x y : Timed) → length (run_waiting (if b then Two x y else Torn x y)) ≡ 2
+joined_two true x y = refl
+joined_two false x y = refl
 
-first_balances : (first : First) (t : Timing) (d : Dates) (one : Timed) → d.first ≡ first
-    → Balances (judged_at first t d one) (length (first_waiting d.first) + length (run_waiting d.run) + 1)
-first_balances NoRow t d one is =
+replaced_balances : (t : Timing) (d : Dates) (a b one : Timed)
+    → Balances (replaced t d a b one) (length (first_waiting d.first) + 3)
+replaced_balances t d a b one =
+    let count = length (first_waiting d.first) + 3 in
+    let beside = waits_balances d (Two a one) (b ∷ []) in
+    let joins = waits_balances d (joined t d b one) (a ∷ []) in
+    if_balances (is_beside t d a one.moment) (waits d (Two a one) (b ∷ [])) (waits d (joined t d b one) (a ∷ []))
+    count (omega (arith, beside)) (omega (arith, joins, joined_two (follows t d b one.moment) b one))
+
+run_balances : (run : Run) (t : Timing) (d : Dates) (arrival : ℕ) (one : Timed)
+    → Balances (longer_run run t d arrival one) (length (first_waiting d.first) + length (run_waiting run) + 1)
+run_balances Empty t d arrival one =
+    let is = waits_balances d (One one) [] in omega (arith, is)
+run_balances (One a) t d arrival one =
+    let is = waits_balances d (joined t d a one) [] in
+    omega (arith, is, joined_two (follows t d a one.moment) a one)
+run_balances (Two a b) t d arrival one =
+    let count = length (first_waiting d.first) + 3 in
+    let three = confirmed_balances t d arrival a (a ∷ b ∷ one ∷ []) Empty in
+    let two = confirmed_balances t d arrival a (a ∷ b ∷ []) (One one) in
+    let all = if_balances (follows t d b one.moment) (confirmed_by t d arrival a b one) (replaced t d a b one) count
+    (if_balances (is_beside t d b one.moment) (confirmed t d arrival a (a ∷ b ∷ one ∷ []) Empty)
+    (confirmed t d arrival a (a ∷ b ∷ []) (One one)) count (omega (arith, three)) (omega (arith, two)))
+    (replaced_balances t d a b one) in
+    omega (arith, all)
+run_balances (Torn a b) t d arrival one =
+    let all = replaced_balances t d a b one in omega (arith, all)
+
+later_balances : (t : Timing) (d : Dates) (arrival : ℕ) (one : Timed)
+    → Balances (judged_later t d arrival one) (length (first_waiting d.first) + length (run_waiting d.run) + 1)
+later_balances t d arrival one =
+    if_balances (is_fit t d arrival one.moment)
+    (believes d Empty (first_waiting d.first ++ one ∷ []) (run_waiting d.run)) (longer_run d.run t d arrival one)
+    (length (first_waiting d.first) + length (run_waiting d.run) + 1)
+    (omega (arith, length-append (first_waiting d.first) (one ∷ []))) (run_balances d.run t d arrival one)
+
+first_balances : (first : First) (t : Timing) (d : Dates) (arrival : ℕ) (one : Timed) → d.first ≡ first
+    → Balances (judged_at first t d arrival one) (length (first_waiting d.first) + length (run_waiting d.run) + 1)
+first_balances NoTime t d arrival one is =
     let none : length (first_waiting d.first) ≡ 0 = ap (λ f. length (first_waiting f)) is in omega (arith, none)
-first_balances (Waits first) t d one is = later_balances t d one
-first_balances Believed t d one is = later_balances t d one
+first_balances (Waits first) t d arrival one is = later_balances t d arrival one
+first_balances Believed t d arrival one is = later_balances t d arrival one
 
-pub row_balances : (t : Timing) (d : Dates) (one : Timed) → Balances (judged t d one) (length (waiting d) + 1)
-row_balances t d one =
-    let is = first_balances d.first t d one refl in
+pub judged_balances : (t : Timing) (d : Dates) (arrival : ℕ) (one : Timed)
+    → Balances (judged t d arrival one) (length (waiting d) + 1)
+judged_balances t d arrival one =
+    let is = first_balances d.first t d arrival one refl in
     omega (arith, is, length-append (first_waiting d.first) (run_waiting d.run))
+
+-- a frame with a clock, whether it starts the clock or not
+pub clock_balances : (b : Bool) (t : Timing) (d : Dates) (arrival : ℕ) (one : Timed)
+    → Balances (if b then started d one else judged t d arrival one) (length (waiting d) + 1)
+clock_balances true t d arrival one = omega arith
+clock_balances false t d arrival one = judged_balances t d arrival one
 
 none_waits : (b : Bool) (x y : Judged) → waiting x.after ≡ [] → waiting y.after ≡ []
     → waiting (if b then x else y).after ≡ []
@@ -87,17 +124,18 @@ end_balances : (run : Run) (t : Timing) (d : Dates)
     × (waiting (ended_run run t d).after ≡ [])
 end_balances Empty t d = (omega arith, refl)
 end_balances (One a) t d = (
-  if_balances (is_ahead t d a) (believes d (first_waiting d.first ++ a ∷ []) [])
-      (believes d (first_waiting d.first) (a ∷ [])) (length (first_waiting d.first) + 1)
+  if_balances (is_ahead t d a) (believes d Empty (first_waiting d.first ++ a ∷ []) [])
+      (believes d Empty (first_waiting d.first) (a ∷ [])) (length (first_waiting d.first) + 1)
       (omega (arith, length-append (first_waiting d.first) (a ∷ []))) (omega arith),
-  none_waits (is_ahead t d a) (believes d (first_waiting d.first ++ a ∷ []) [])
-      (believes d (first_waiting d.first) (a ∷ [])) refl refl,
+  none_waits (is_ahead t d a) (believes d Empty (first_waiting d.first ++ a ∷ []) [])
+      (believes d Empty (first_waiting d.first) (a ∷ [])) refl refl,
 )
 end_balances (Two a b) t d = (
-  confirmed_balances t d a (a ∷ b ∷ []),
-  none_waits (is_ahead t d a) (believes d (first_waiting d.first ++ a ∷ b ∷ []) [])
-      (believes (shifted t d a) (a ∷ b ∷ []) (first_waiting d.first)) refl refl,
+  let is = confirmed_balances t d t.arrival a (a ∷ b ∷ []) Empty in omega (arith, is),
+  none_waits (is_ahead t d a) (believes d Empty (first_waiting d.first ++ a ∷ b ∷ []) [])
+      (believes (shifted t d t.arrival a) Empty (a ∷ b ∷ []) (first_waiting d.first)) refl refl,
 )
+end_balances (Torn a b) t d = (omega arith, refl)
 
 -- one item was counted, and `written` frames were written
 record Counts (before after : Tally) (written : ℕ) : Type 0 where
@@ -140,12 +178,6 @@ other_counts : (tally : Tally) (fate : Fate) → IsOther fate → tally.found < 
     → Counts tally (counted tally fate) 0
 other_counts tally fate other few =
     subst (λ t. Counts tally t 0) (sym (as_fate tally fate few)) (other_as tally fate other)
-
--- the counts after a squitter, with or without a timestamp
-told_counts : (tally : Tally) (test : Bool) (told : List Timed) → length told ≡ 1 → tally.found < 2 ^ 64 - 1
-    → Counts tally (counted tally (if test then Written else Aside)) (length (if test then told else []))
-told_counts tally true told one few = subst (Counts tally (counted tally Written)) (sym one) (written_counts tally few)
-told_counts tally false told one few = other_counts tally Aside tt few
 
 pub timed_length : (told : List Timed) (d : Dates) (arrival : ℕ) (t : Timing)
     → length (timed_all d arrival t told) ≡ length told
@@ -195,23 +227,47 @@ heard_as before after written same counts = record {
   wrote = counts.wrote;
 }
 
+-- a frame without a time
+arrived_counts : (arrival : ℕ) (ear : Hears) (frame : List ℕ)
+    → ear.counts.found + length (waiting ear.dates) < 2 ^ 64 - 1
+    → Heard ear (ear_arrived arrival ear) (length (told_arrived arrival ear frame))
+arrived_counts arrival ear frame few =
+    heard_as ear (ear_arrived arrival ear) 1 refl (written_counts ear.counts (omega (arith, few)))
+
+-- a frame with a time of its own: `with` is the state in which its decision counts
+judged_counts : (arrival : ℕ) (ear with : Hears) (judged : Judged) → with.counts ≡ ear.counts
+    → Balances judged (length (waiting ear.dates) + 1) → ear.counts.found + length (waiting ear.dates) < 2 ^ 64 - 1
+    → Heard ear (ear_judged arrival with judged) (length (told_judged arrival with judged))
+judged_counts arrival ear with judged same balance few =
+    let found-is : with.counts.found ≡ ear.counts.found = ap (λ (c : Tally). c.found) same in
+    let written-is : with.counts.written ≡ ear.counts.written = ap (λ (c : Tally). c.written) same in
+    let (found, written) = rows_count with.counts (length judged.told) judged.aside
+    (omega (arith, few, balance, found-is)) in
+    let told = timed_length judged.told judged.after arrival with.times in
+    record { found = omega (arith, found, balance, found-is); wrote = omega (arith, written, told, written-is) }
+
+ticks_counts : (b : Bool) (shown arrival : ℕ) (ear : Hears) (frame : List ℕ)
+    → ear.counts.found + length (waiting ear.dates) < 2 ^ 64 - 1
+    → Heard ear (if b then ear_arrived arrival ear
+    else ear_clocked ear shown arrival (clock_judged ear shown arrival frame))
+    (length (if b then told_arrived arrival ear frame
+    else told_clocked ear shown arrival (clock_judged ear shown arrival frame)))
+ticks_counts true shown arrival ear frame few = arrived_counts arrival ear frame few
+ticks_counts false shown arrival ear frame few =
+    let judged = clock_judged ear shown arrival frame in
+    judged_counts arrival ear (with_clock ear shown arrival judged) judged refl
+    (clock_balances (not ear.times.clock.is_heard) ear.times ear.dates arrival (clock_one ear shown arrival frame)) few
+
 -- a frame whose time decides
 time_counts : (time : Time) (arrival : ℕ) (ear : Hears) (frame : List ℕ)
     → ear.counts.found + length (waiting ear.dates) < 2 ^ 64 - 1
     → Heard ear (ear_at time arrival ear frame) (length (told_at time arrival ear frame))
-time_counts Unknown arrival ear frame few =
-    heard_as ear (ear_at Unknown arrival ear frame) 1 refl (written_counts ear.counts (omega (arith, few)))
+time_counts Unknown arrival ear frame few = arrived_counts arrival ear frame few
 time_counts (Ticks ticks) arrival ear frame few =
-    heard_as ear (ear_at (Ticks ticks) arrival ear frame) (length (told_at (Ticks ticks) arrival ear frame)) refl
-    (told_counts ear.counts (is_ticks_told ear.times ticks arrival)
-    (record { moment = told_as ear.times (ticks_moment ear.times ticks arrival); frame = frame } ∷ []) refl
-    (omega (arith, few)))
+    ticks_counts (is_clockless ear.times ticks) (ticks % turn) arrival ear frame few
 time_counts (Millis moment) arrival ear frame few =
-    let row = row_judged ear moment frame in
-    let balance = row_balances ear.times ear.dates (record { moment = moment; frame = frame }) in
-    let (found, written) = rows_count ear.counts (length row.told) row.aside (omega (arith, few, balance)) in
-    let told = timed_length row.told row.after arrival ear.times in
-    record { found = omega (arith, found, balance); wrote = omega (arith, written, told) }
+    judged_counts arrival ear (with_row ear) (row_judged ear moment arrival frame) refl
+    (judged_balances ear.times ear.dates arrival (record { moment = moment; frame = frame })) few
 
 fate_counts : (fate : Option Fate) (arrival : ℕ) (ear : Hears) (message : Message)
     → ear.counts.found + length (waiting ear.dates) < 2 ^ 64 - 1 → IsOtherFate fate
@@ -264,7 +320,7 @@ counts_each arrival ear (item ∷ items) few =
 
 pub ended_balances : (first : First) (t : Timing) (d : Dates) → d.first ≡ first
     → Balances (ended_at first t d) (length (waiting d)) × (waiting (ended_at first t d).after ≡ [])
-ended_balances NoRow t d is =
+ended_balances NoTime t d is =
     let none : length (first_waiting d.first) ≡ 0 = ap (λ f. length (first_waiting f)) is in
     let empty : waiting (record d { run = Empty }) ≡ [] = ap (λ f. first_waiting f ++ []) is in
     (omega (arith, none, ap length empty, length-append (first_waiting d.first) (run_waiting d.run)), empty)

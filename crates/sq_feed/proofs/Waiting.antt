@@ -1,20 +1,20 @@
 -- How many frames of rows wait, or are ready.
-use Rattle.std.proofs.Common.{◌≡◌, ◌+◌, ◌<◌, ◌≤◌, ◌++◌, ◌⊎◌, ◌∙◌, ℕ, List, [], ◌∷◌, length, ap, ap₂, arith, inl, inr, refl}
+use Rattle.std.proofs.Common.{◌≡◌, ◌+◌, ◌<◌, ◌≤◌, ◌++◌, ◌⊎◌, ◌∙◌, ℕ, List, [], ◌∷◌, length, ap, arith, inl, inr, refl}
 use Rattle.std.proofs.Common.{length-append}
 use Rattle.sq_feed.specs.declared.dates.Dates.{Dates}
 use Rattle.sq_feed.specs.declared.dates.First.{First}
-use Rattle.sq_feed.specs.declared.dates.First.TheVariants.{NoRow, Waits, Believed}
+use Rattle.sq_feed.specs.declared.dates.First.TheVariants.{NoTime, Waits, Believed}
 use Rattle.sq_feed.specs.declared.dates.Run.{Run}
-use Rattle.sq_feed.specs.declared.dates.Run.TheVariants.{Empty, One, Two}
+use Rattle.sq_feed.specs.declared.dates.Run.TheVariants.{Empty, One, Two, Torn}
 use Rattle.sq_feed.specs.declared.message.Timed.{Timed}
-use Rattle.sq_feed.specs.Dates.{HasRoom, ended, first_waiting, judged, run_waiting, timed_all, waiting}
+use Rattle.sq_feed.specs.Dates.{HasRoom, Judged, ended, first_waiting, run_waiting, timed_all, waiting}
 use Rattle.sq_feed.specs.Feeds.{Feeding, steps_for, steps_left}
 use Rattle.sq_feed.specs.Readers.{calls_for, calls_left}
 use Rattle.sq_feed.specs.Times.{Timing}
-use Rattle.sq_feed.proofs.Tallies.{ended_balances, row_balances, timed_length}
+use Rattle.sq_feed.proofs.Tallies.{Balances, ended_balances, timed_length}
 
 first_few : (first : First) → length (first_waiting first) ≤ 1
-first_few NoRow = omega arith
+first_few NoTime = omega arith
 first_few (Waits one) = omega arith
 first_few Believed = omega arith
 
@@ -22,6 +22,7 @@ run_few : (run : Run) → length (run_waiting run) ≤ 2
 run_few Empty = omega arith
 run_few (One a) = omega arith
 run_few (Two a b) = omega arith
+run_few (Torn a b) = omega arith
 
 pub waiting_few : (d : Dates) → length (waiting d) ≤ 3
 waiting_few d =
@@ -29,27 +30,23 @@ waiting_few d =
     let run = run_few d.run in
     omega (arith, first, run, length-append (first_waiting d.first) (run_waiting d.run))
 
--- A row makes as many frames ready as waited, and itself.
-pub row_room : (t : Timing) (d : Dates) (one : Timed) (arrival : ℕ)
-    → length (timed_all (judged t d one).after arrival t (judged t d one).told)
-    + length (waiting (judged t d one).after) ≤ length (waiting d) + 1
-row_room t d one arrival =
-    let balance = row_balances t d one in
-    let told = timed_length (judged t d one).told (judged t d one).after arrival t in
-    omega (arith, balance, told)
+-- There is room for the frames that get timestamps.
+pub told_few : (judged : Judged) (waited : ℕ) (told old : List Timed) → Balances judged (waited + 1)
+    → told ≡ judged.told → length old + waited ≤ 3 → length old + length told ≤ 4
+told_few judged waited told old balance told-is room = omega (arith, ap length told-is, balance, room)
 
-pub room_after : (t : Timing) (d : Dates) (one : Timed) (arrival : ℕ) (after next : Dates) (told old new : List Timed)
-    → after ≡ (judged t d one).after → told ≡ (judged t d one).told → next ≡ after
-    → new ≡ old ++ timed_all after arrival t told → length old + length (waiting d) ≤ 3 → HasRoom new next
-room_after t d one arrival after next told old new after-is told-is same new-is room =
-    let row = judged t d one in
-    let is : new ≡ old ++ timed_all row.after arrival t row.told =
-    new-is ∙ ap₂ (λ (a : Dates) (l : List Timed). old ++ timed_all a arrival t l) after-is told-is in
-    let long : length new ≡ length old + length (timed_all row.after arrival t row.told) =
-    ap length is ∙ length-append old (timed_all row.after arrival t row.told) in
-    let left : length (waiting next) ≡ length (waiting row.after) =
+-- A frame makes as many frames ready as waited, and itself.
+pub room_after : (judged : Judged) (d : Dates) (t : Timing) (arrival : ℕ) (after next : Dates)
+    (told old new : List Timed) → Balances judged (length (waiting d) + 1) → after ≡ judged.after → told ≡ judged.told
+    → next ≡ after → new ≡ old ++ timed_all after arrival t told → length old + length (waiting d) ≤ 3
+    → HasRoom new next
+room_after judged d t arrival after next told old new balance after-is told-is same new-is room =
+    let long : length new ≡ length old + length told =
+    ap length new-is ∙ length-append old (timed_all after arrival t told)
+    ∙ ap (λ n. length old + n) (timed_length told after arrival t) in
+    let left : length (waiting next) ≡ length (waiting judged.after) =
     ap (λ (a : Dates). length (waiting a)) (same ∙ after-is) in
-    let fits = row_room t d one arrival in (omega (arith, long, left, fits, room), waiting_few next)
+    (omega (arith, long, left, ap length told-is, balance, room), waiting_few next)
 
 pub end_room : (t : Timing) (d : Dates) (arrival : ℕ)
     → length (timed_all (ended t d).after arrival t (ended t d).told) ≤ length (waiting d)

@@ -1,7 +1,7 @@
 -- What becomes of each item: a squitter with its timestamp, or a count.
-use Rattle.std.specs.Prelude.{⊤, max, ◌≡◌, ◌≤◌, ◌+◌, ◌-◌, ◌^◌, ◌==◌, ◌++◌, ◌/◌, ℕ, Bool, false, not, ◌&&◌, List, [], ◌∷◌, length, map, nat_lt, replicate, slice_index, Option, Some, None, if◌then◌else◌}
+use Rattle.std.specs.Prelude.{⊤, max, ◌≡◌, ◌≤◌, ◌+◌, ◌*◌, ◌%◌, ◌-◌, ◌^◌, ◌==◌, ◌++◌, ◌/◌, ℕ, Bool, true, false, not, ◌&&◌, ◌||◌, List, [], ◌∷◌, length, map, nat_lt, replicate, slice_index, Option, Some, None, if◌then◌else◌}
 use Rattle.sq_feed.specs.declared.counts.Fate.{Fate}
-use Rattle.sq_feed.specs.declared.counts.Fate.TheVariants.{Written, OtherFormat, Multilaterated, Damaged, Aside}
+use Rattle.sq_feed.specs.declared.counts.Fate.TheVariants.{Written, OtherFormat, Multilaterated, Damaged}
 use Rattle.sq_feed.specs.declared.counts.Fate.TheVariants.{ModeAc as FateModeAc, ReceiverId as IdFate}
 use Rattle.sq_feed.specs.declared.message.Found.{Found}
 use Rattle.sq_feed.specs.declared.message.Found.TheVariants.{Whole, Damage, ReceiverId, Foreign}
@@ -13,17 +13,18 @@ use Rattle.sq_feed.specs.declared.message.Timed.{Timed}
 use Rattle.sq_feed.specs.declared.message.Time.TheVariants.{Unknown, Ticks, Millis}
 use Rattle.sq_feed.specs.Counts.{Tally, counted, counted_rows, nothing_counted}
 use Rattle.sq_feed.specs.declared.manner.Manner.{Manner}
-use Rattle.sq_feed.specs.Dates.{Judged, ended, gone_all, judged, new_dates, timed_all, waiting}
+use Rattle.sq_feed.specs.Clock.{rate, turn}
+use Rattle.sq_feed.specs.Dates.{Judged, ended, gone_all, is_calm, is_timed, judged, new_dates, started, timed_all, waiting}
 use Rattle.sq_feed.specs.declared.dates.Dates.{Dates}
 use Rattle.sq_feed.specs.declared.message.Message.{Message}
-use Rattle.sq_feed.specs.Times.{Timing, by_arrival, by_ticks, due, is_ticks_told, no_times, other_times, ticks_moment}
-use Rattle.sq_feed.specs.Times.{told_as}
+use Rattle.sq_feed.specs.Times.{Timing, by_arrival, clock_time, clocked, due, is_clockless, no_times, other_times, told_as}
 
--- the state: the times, the own times of rows, whether frames of all downlink formats are given, the counts, and what
--- the last source without frames was, if there was one
+-- the state: the times, the own times of frames, whether the first of these was that of a row, whether frames of all
+-- downlink formats are given, the counts, and what the last source without frames was, if there was one
 pub record Hears : Type 0 where
   pub times : Timing
   pub dates : Dates
+  pub is_dated : Bool
   pub all_formats : Bool
   pub counts : Tally
   pub stranger : Option Stranger
@@ -32,6 +33,7 @@ abbrev pub untouched : Manner → Hears
 untouched manner = record {
   times = no_times manner;
   dates = new_dates;
+  is_dated = false;
   all_formats = manner.all_formats;
   counts = nothing_counted;
   stranger = None;
@@ -86,11 +88,7 @@ frame_in Damage = replicate 14 0
 frame_in ReceiverId = replicate 14 0
 frame_in (Foreign stranger) = replicate 14 0
 
--- A frame with a clock is written if it has a timestamp, otherwise it is set aside.
-abbrev pub ticks_fate : Timing → ℕ → ℕ → Fate
-ticks_fate t ticks arrival = if is_ticks_told t ticks arrival then Written else Aside
-
--- The state after rows, and the frames among them with timestamps. The others wait, or are set aside.
+-- The state after a decision, and the frames with timestamps. The others wait, or are set aside.
 abbrev pub ear_judged : ℕ → Hears → Judged → Hears
 ear_judged arrival ear judged = record ear {
   times = gone_all judged.after arrival ear.times judged.told;
@@ -101,28 +99,66 @@ ear_judged arrival ear judged = record ear {
 abbrev pub told_judged : ℕ → Hears → Judged → List Timed
 told_judged arrival ear judged = timed_all judged.after arrival ear.times judged.told
 
-abbrev pub row_judged : Hears → ℕ → List ℕ → Judged
-row_judged ear moment frame = judged ear.times ear.dates (record { moment = moment; frame = frame })
+-- ---- a row with its own time
+
+abbrev pub row_judged : Hears → (moment arrival : ℕ) → List ℕ → Judged
+row_judged ear moment arrival frame =
+    judged ear.times ear.dates arrival (record { moment = moment; frame = frame })
+
+abbrev pub with_row : Hears → Hears
+with_row ear = record ear { is_dated = not (is_timed ear.dates) || ear.is_dated }
+
+-- ---- a frame with a clock
+
+abbrev pub clock_one : Hears → (shown arrival : ℕ) → List ℕ → Timed
+clock_one ear shown arrival frame = record { moment = clock_time ear.times shown arrival; frame = frame }
+
+-- the first value starts the clock
+abbrev pub clock_judged : Hears → (shown arrival : ℕ) → List ℕ → Judged
+clock_judged ear shown arrival frame =
+    if not ear.times.clock.is_heard then started ear.dates (clock_one ear shown arrival frame)
+    else judged ear.times ear.dates arrival (clock_one ear shown arrival frame)
+
+-- The clock counts on from this value if its time is believed: then no frame waits.
+abbrev pub with_clock : Hears → (shown arrival : ℕ) → Judged → Hears
+with_clock ear shown arrival judged =
+    record ear { times = if is_calm judged.after then clocked ear.times shown arrival else ear.times }
+
+-- the state after a frame, and the frames with timestamps
+abbrev pub ear_clocked : Hears → (shown arrival : ℕ) → Judged → Hears
+ear_clocked ear shown arrival judged = ear_judged arrival (with_clock ear shown arrival judged) judged
+
+abbrev pub told_clocked : Hears → (shown arrival : ℕ) → Judged → List Timed
+told_clocked ear shown arrival judged = told_judged arrival (with_clock ear shown arrival judged) judged
+
+-- ---- a frame without a time
+
+abbrev pub ear_arrived : ℕ → Hears → Hears
+ear_arrived arrival ear =
+    record ear { times = by_arrival ear.times arrival; counts = counted ear.counts Written }
+
+abbrev pub told_arrived : ℕ → Hears → List ℕ → List Timed
+told_arrived arrival ear frame = record { moment = told_as ear.times (due ear.times arrival); frame = frame } ∷ []
+
+-- ---- any frame
 
 -- the state after a frame, by its time
 abbrev pub ear_at : Time → ℕ → Hears → List ℕ → Hears
-ear_at Unknown arrival ear frame =
-    record ear { times = by_arrival ear.times arrival; counts = counted ear.counts Written }
-ear_at (Ticks ticks) arrival ear frame = record ear {
-  times = by_ticks ear.times ticks arrival;
-  counts = counted ear.counts (ticks_fate ear.times ticks arrival);
-}
-ear_at (Millis moment) arrival ear frame = ear_judged arrival ear (row_judged ear moment frame)
+ear_at Unknown arrival ear frame = ear_arrived arrival ear
+ear_at (Ticks ticks) arrival ear frame =
+    if is_clockless ear.times ticks then ear_arrived arrival ear
+    else ear_clocked ear (ticks % turn) arrival (clock_judged ear (ticks % turn) arrival frame)
+ear_at (Millis moment) arrival ear frame =
+    ear_judged arrival (with_row ear) (row_judged ear moment arrival frame)
 
 -- the frames that get their timestamps with it
 abbrev pub told_at : Time → ℕ → Hears → List ℕ → List Timed
-told_at Unknown arrival ear frame =
-    record { moment = told_as ear.times (due ear.times arrival); frame = frame } ∷ []
+told_at Unknown arrival ear frame = told_arrived arrival ear frame
 told_at (Ticks ticks) arrival ear frame =
-    if is_ticks_told ear.times ticks arrival
-    then record { moment = told_as ear.times (ticks_moment ear.times ticks arrival); frame = frame } ∷ []
-    else []
-told_at (Millis moment) arrival ear frame = told_judged arrival ear (row_judged ear moment frame)
+    if is_clockless ear.times ticks then told_arrived arrival ear frame
+    else told_clocked ear (ticks % turn) arrival (clock_judged ear (ticks % turn) arrival frame)
+told_at (Millis moment) arrival ear frame =
+    told_judged arrival (with_row ear) (row_judged ear moment arrival frame)
 
 abbrev pub ear_by : Option Fate → ℕ → Hears → Message → Hears
 ear_by (Some fate) arrival ear message = record ear { counts = counted ear.counts fate }
@@ -149,9 +185,9 @@ told_of arrival ear Damage = []
 told_of arrival ear ReceiverId = []
 told_of arrival ear (Foreign stranger) = []
 
--- ---- the end of rows
+-- ---- the end of a source
 
--- No row comes that confirms a time: frames that wait get timestamps, or are set aside.
+-- No frame comes that confirms a time: those that wait get timestamps, or are set aside.
 abbrev pub ear_ended : Hears → Hears
 ear_ended ear = ear_judged ear.times.arrival ear (ended ear.times ear.dates)
 
@@ -174,24 +210,38 @@ told_of_all arrival ear (one ∷ more) = told_of arrival ear one ++ told_of_all 
 
 -- ---- words of examples
 
--- a row of an extended squitter with this time
+-- an extended squitter with this time (ms), as a row, and by a receiver's clock
 abbrev pub row_at : ℕ → Found
 row_at moment = Whole (record { time = Millis moment; frame = Long (136 ∷ []) })
 
--- a recorded source before its first row
-abbrev pub recorded_rows : Hears
-recorded_rows = untouched (record {
+abbrev pub clock_item : ℕ → Found
+clock_item moment = Whole (record { time = Ticks (moment * rate % turn); frame = Long (136 ∷ []) })
+
+-- a source before its first frame, with a leap of ten minutes
+abbrev pub new_source : (is_live : Bool) → Hears
+new_source is_live = untouched (record {
   leap = 600000;
   late = 0;
-  is_live = false;
+  is_live = is_live;
   ignores_clock = false;
   all_formats = false;
 })
 
--- the timestamps of rows with these times, and of those that waited at the end
+-- the timestamps of items that arrive at 10^8, and of those that waited at the end
+abbrev pub times_of : Hears → List Found → List ℕ
+times_of ear items =
+    map (λ (t : Timed). t.moment) (told_of_all 100000000 ear items ++ told_ended (ear_after_all 100000000 ear items))
+
+-- the timestamps in a recording of rows with these times, and of frames with these times of a clock
 abbrev pub row_times : List ℕ → List ℕ
-row_times moments = map (λ (t : Timed). t.moment) (told_of_all 0 recorded_rows (map row_at moments)
-    ++ told_ended (ear_after_all 0 recorded_rows (map row_at moments)))
+row_times moments = times_of (new_source false) (map row_at moments)
+
+abbrev pub clock_times : List ℕ → List ℕ
+clock_times moments = times_of (new_source false) (map clock_item moments)
+
+-- those of a live source with a clock
+abbrev pub live_times : List ℕ → List ℕ
+live_times moments = times_of (new_source true) (map clock_item moments)
 
 -- ---- words of the laws
 
@@ -221,8 +271,8 @@ StaysNearAtEnd = (ear : Hears) → AreNear ear.times.late ear.times.latest (told
     × ((ear_ended ear).times.late ≡ ear.times.late)
     × ((ear_ended ear).times.latest ≡ latest_told ear.times.latest (told_ended ear))
 
--- Each item is counted once, and each frame with a timestamp is counted as written, up to 2^64 - 1 items. A row that
--- waits is counted when it is decided.
+-- Each item is counted once, and each frame with a timestamp is counted as written, up to 2^64 - 1 items. A frame
+-- that waits is counted when it is decided.
 abbrev pub CountsEach : Type 0
 CountsEach = (arrival : ℕ) (ear : Hears) (items : List Found)
     → ear.counts.found + length (waiting ear.dates) + length items ≤ 2 ^ 64 - 1
@@ -230,7 +280,7 @@ CountsEach = (arrival : ℕ) (ear : Hears) (items : List Found)
     ≡ ear.counts.found + length (waiting ear.dates) + length items)
     × ((ear_after_all arrival ear items).counts.written ≡ ear.counts.written + length (told_of_all arrival ear items))
 
--- At the end of its rows, a source has no frame that waits: each is counted as written or set aside.
+-- At its end, a source has no frame that waits: each is counted as written or set aside.
 abbrev pub CountsAtEnd : Type 0
 CountsAtEnd = (ear : Hears) → ear.counts.found + length (waiting ear.dates) ≤ 2 ^ 64 - 1
     → ((ear_ended ear).counts.found ≡ ear.counts.found + length (waiting ear.dates))

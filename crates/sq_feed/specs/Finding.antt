@@ -2,13 +2,14 @@
 --
 -- A start of a Beast message in the first two bytes shows Beast. Otherwise the bytes are read as Beast and as lines of
 -- text at the same time: two Beast messages in a row show Beast, and the first line that can be read shows a text. A
--- log is tried first, then a table, then AVR text. A marked frame at the start of a line shows AVR text at its
--- semicolon. All bytes of the source are then read in that format, from the first one on.
+-- log is tried first, then a table. A line that is none of these, but has a frame if it is read as AVR text, shows AVR
+-- text: the frame may have a carriage return, spaces or any other text before it. A marked frame at the start of a line
+-- shows AVR text at its semicolon. All bytes of the source are then read in that format, from the first one on.
 --
--- Archives and other kinds of text are remembered, and named only if nothing shows a format within the first 16,384
--- bytes, or up to the end of a shorter source: no sign of another kind outweighs a frame. All bytes of such a source
--- are one item, which says what the source is.
-use Rattle.std.specs.Prelude.{◌≡◌, ◌==◌, ◌++◌, ◌+◌, ◌||◌, ◌&&◌, ℕ, Bool, true, false, List, [], ◌∷◌, length, take, drop}
+-- Archives, other kinds of text and tables that are not read are remembered, and named only if nothing shows a format
+-- within the first 16,384 bytes, or up to the end of a shorter source: no sign of another kind outweighs a frame. All
+-- bytes of such a source are one item, which says what the source is.
+use Rattle.std.specs.Prelude.{◌≡◌, ◌==◌, ◌++◌, ◌+◌, ◌||◌, ◌&&◌, ℕ, Bool, true, false, not, List, [], ◌∷◌, length, take, drop}
 use Rattle.std.specs.Prelude.{Option, Some, None, bytes_eq, codes, nat_le, nat_lt, slice_index, if◌then◌else◌}
 use Rattle.sq_feed.specs.declared.signs.Sign.{Sign}
 use Rattle.sq_feed.specs.declared.signs.Sign.TheVariants.{Unclear, Shows, Other}
@@ -20,18 +21,18 @@ use Rattle.sq_feed.specs.declared.message.Found.{Found}
 use Rattle.sq_feed.specs.declared.message.Found.TheVariants.{Whole, Damage, ReceiverId, Foreign}
 use Rattle.sq_feed.specs.declared.message.Kind.{Kind}
 use Rattle.sq_feed.specs.declared.message.Kind.TheVariants.{Message as MessageKind, Status, ReceiverId as IdKind, Unknown as UnknownKind}
-use Rattle.sq_feed.specs.declared.message.RawFrame.{RawFrame}
-use Rattle.sq_feed.specs.declared.message.RawFrame.TheVariants.{ModeAc, Short, Long}
+use Rattle.sq_feed.specs.declared.message.RawFrame.TheVariants.{ModeAc}
 use Rattle.sq_feed.specs.declared.message.Time.TheVariants.{Millis, Unknown}
 use Rattle.sq_feed.specs.declared.avr.Mark.{Mark}
 use Rattle.sq_feed.specs.declared.rows.Layout.TheVariants.{Log as LogLayout}
 use Rattle.sq_feed.specs.declared.rows.Row.{Row}
 use Rattle.sq_feed.specs.declared.rows.Row.TheVariants.{Blank, Names, One}
-use Rattle.sq_feed.specs.Avr.{avr_found, frame_of_word, item_of, mark_of}
+use Rattle.sq_feed.specs.Avr.{avr_found, item_of, mark_of}
 use Rattle.sq_feed.specs.Begun.{Begun, nothing_begun, rest_of}
-use Rattle.sq_feed.specs.Kinds.{kind_of}
-use Rattle.sq_feed.specs.Rows.{csv_start, row_read, rows_from, without_last, without_mark}
+use Rattle.sq_feed.specs.Kinds.{is_mode_s, kind_of}
+use Rattle.sq_feed.specs.Rows.{csv_start, row_read, rows_from, without_mark}
 use Rattle.sq_feed.specs.Stream.{escape, found_in}
+use Rattle.sq_feed.specs.Tables.{is_row_of, unread_table}
 
 -- ---- messages in a row
 
@@ -94,12 +95,21 @@ sign_of_row (One (Foreign stranger)) = Unclear
 sign_of_row Blank = Unclear
 sign_of_row (Names columns) = Shows Csv
 
--- a bare frame shows AVR text, unless it is a reply of Mode A/C: four digits may be any number
-abbrev pub sign_of_frame : Option RawFrame → Sign
-sign_of_frame None = Unclear
-sign_of_frame (Some (ModeAc frame)) = Unclear
-sign_of_frame (Some (Short frame)) = Shows Avr
-sign_of_frame (Some (Long frame)) = Shows Avr
+-- a message with a frame of Mode S
+abbrev pub is_framed : Found → Bool
+is_framed (Whole message) = is_mode_s message.frame
+is_framed Damage = false
+is_framed ReceiverId = false
+is_framed (Foreign stranger) = false
+
+abbrev pub has_frame : List Found → Bool
+has_frame [] = false
+has_frame (item ∷ more) = is_framed item || has_frame more
+
+-- A line with a frame anywhere shows AVR text, unless it is a row with semicolons between its columns. AVR text would
+-- read the last column of such a row, without its time.
+abbrev pub text_sign : List ℕ → Sign
+text_sign line = if not (is_row_of 59 line) && has_frame (avr_found line) then Shows Avr else Unclear
 
 -- a line of SBS (BaseStation) text
 abbrev pub is_sbs : List ℕ → Bool
@@ -108,17 +118,21 @@ is_sbs line =
     || bytes_eq (take 4 line) (codes "AIR,") || bytes_eq (take 4 line) (codes "STA,")
     || bytes_eq (take 4 line) (codes "CLK,")
 
--- a line of another kind of text
+-- a line of another kind of text, or of a table that is not read
+abbrev pub told_sign : Option Stranger → Sign
+told_sign (Some stranger) = Other stranger
+told_sign None = Unclear
+
 abbrev pub other_sign : List ℕ → Sign
 other_sign line =
-    if is_sbs line then Other Sbs else (if bytes_eq (take 1 line) (codes "{") then Other Json else Unclear)
+    if is_sbs line then Other Sbs
+    else (if bytes_eq (take 1 line) (codes "{") then Other Json else told_sign (unread_table line))
 
 -- the sign of a whole line, without its line feed
 unfoldable pub line_sign : List ℕ → Sign
 line_sign line =
     first_shown (sign_of_line (row_read LogLayout line)) (first_shown (sign_of_row (row_read csv_start line))
-    (first_shown (sign_of_frame (frame_of_word (without_last 13 (without_mark line))))
-    (other_sign (without_mark line))))
+    (first_shown (text_sign line) (other_sign (without_mark line))))
 
 -- ---- the first bytes
 
@@ -203,15 +217,23 @@ named None = NoFrame
 abbrev pub limit : ℕ
 limit = 16384
 
+-- what a source without a format is whose last line has this sign
+abbrev pub named_after : Option Stranger → Sign → Sign
+named_after stranger last = Other (named (remembered stranger last))
+
 -- the sign of a source that ends here: its last line may lack its line feed, and one message is enough for Beast
 abbrev pub last_sign : ℕ → Lines → Sign
 last_sign messages text =
     first_shown (line_sign text.line) (if nat_le 1 messages then Shows Beast
-    else (if text.count == 0 then Unclear else Other (named (remembered text.stranger (line_sign text.line)))))
+    else (if text.count == 0 then Unclear else named_after text.stranger (line_sign text.line)))
+
+-- the sign at the limit: the line that has begun counts as it is
+abbrev pub limit_sign : Lines → Sign
+limit_sign text = first_shown (line_sign text.line) (named_after text.stranger (line_sign text.line))
 
 -- the sign of a source that goes on, up to the limit
 abbrev pub sign_within : Lines → Sign → Sign
-sign_within text later = if text.count == limit then Other (named text.stranger) else later
+sign_within text later = if text.count == limit then limit_sign text else later
 
 -- What the bytes to come show, after the text so far. The first argument maps the bytes to come to the number of
 -- messages in a row at their end, if all bytes are read as Beast.

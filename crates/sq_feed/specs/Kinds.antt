@@ -1,5 +1,5 @@
 -- The kinds of things that start in a Beast stream, and the messages that bytes spell.
-use Rattle.std.specs.Prelude.{◌==◌, ◌+◌, ℕ, List, take, drop, if◌then◌else◌}
+use Rattle.std.specs.Prelude.{◌==◌, ◌+◌, ℕ, Bool, true, false, List, take, drop, if◌then◌else◌}
 use Rattle.std.specs.Int.Digits.{number_from_digits}
 use Rattle.sq_feed.specs.declared.message.Size.{Size}
 use Rattle.sq_feed.specs.declared.message.Size.TheVariants.{TwoBytes, SevenBytes, FourteenBytes}
@@ -34,6 +34,12 @@ abbrev pub frame_of : Size → List ℕ → RawFrame
 frame_of TwoBytes bytes = ModeAc bytes
 frame_of SevenBytes bytes = Short bytes
 frame_of FourteenBytes bytes = Long bytes
+
+-- A frame of Mode S. The four digits of Mode A/C may be any number.
+abbrev pub is_mode_s : RawFrame → Bool
+is_mode_s (ModeAc frame) = false
+is_mode_s (Short frame) = true
+is_mode_s (Long frame) = true
 
 -- The message of the bytes after its type byte. The clock is a 48-bit number, most significant byte first.
 abbrev pub message_of : Size → List ℕ → OneMessage

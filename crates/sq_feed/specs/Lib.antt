@@ -19,3 +19,4 @@ pub mod Finding
 pub mod Orders
 pub mod Shown
 pub mod Units
+pub mod Tables

@@ -1,14 +1,17 @@
 -- A source in a known format is found without a format being given.
-use Rattle.std.specs.Prelude.{◌≡◌, ◌≢◌, ◌≤◌, ◌++◌, true, ℕ, List, ◌∷◌, length}
+use Rattle.std.specs.Prelude.{◌≡◌, ◌≢◌, ◌<◌, ◌≤◌, ◌++◌, true, false, ℕ, List, ◌∷◌, length}
 use Rattle.std.specs.List.{AllByRecursion, flat_map}
 use Rattle.sq_feed.specs.declared.machine.Format.{Format}
+use Rattle.sq_feed.specs.declared.rows.Layout.TheVariants.{Log as LogLayout}
 use Rattle.sq_feed.specs.declared.signs.Sign.TheVariants.{Shows, Unclear}
 use Rattle.sq_feed.specs.Avr.{AvrSent, IsSent, avr_found, sent_text}
-use Rattle.sq_feed.specs.Finding.{any_found, is_known, items_from, line_sign, marked_sign}
+use Rattle.sq_feed.specs.Finding.{any_found, has_frame, is_known, items_from, limit, line_sign, marked_sign}
+use Rattle.sq_feed.specs.Finding.{sign_of_line, sign_of_row}
 use Rattle.sq_feed.specs.Kinds.{kind_of}
 use Rattle.sq_feed.specs.Laws.{AreSent, Sent, sent_bytes, sent_messages}
-use Rattle.sq_feed.specs.Rows.{longest}
+use Rattle.sq_feed.specs.Rows.{csv_start, longest, row_read}
 use Rattle.sq_feed.specs.Stream.{escape, found_in}
+use Rattle.sq_feed.specs.Tables.{is_row_of}
 
 -- A source that begins with the start of a Beast message is read as Beast, whatever follows.
 abbrev pub BeastIsShown : Type 0
@@ -31,6 +34,22 @@ pub record IsTextLine (line : List ℕ) : Type 0 where
   pub one_line : AllByRecursion (λ byte. byte ≢ 10) line
   pub plain : AllByRecursion (λ byte. byte ≢ escape) line
   pub unmarked : (front back : List ℕ) → line ≡ front ++ 59 ∷ back → marked_sign front ≡ Unclear
+
+-- A line that only AVR text reads: it is no line of a log, no row of a table or its names, and no row with semicolons.
+-- Read as AVR text, it has a frame of Mode S, with any text before it. The line is within the bytes that decide, and
+-- has no line feed and no escape.
+pub record IsAvrLine (line : List ℕ) : Type 0 where
+  pub short : length line < limit
+  pub one_line : AllByRecursion (λ byte. byte ≢ 10) line
+  pub plain : AllByRecursion (λ byte. byte ≢ escape) line
+  pub no_log : sign_of_line (row_read LogLayout line) ≡ Unclear
+  pub no_row : sign_of_row (row_read csv_start line) ≡ Unclear
+  pub no_semicolons : is_row_of 59 line ≡ false
+  pub framed : has_frame (avr_found line) ≡ true
+
+-- A source that begins with such a line is read as AVR text, whatever follows.
+abbrev pub AvrLineIsShown : Type 0
+AvrLineIsShown = (line more : List ℕ) → IsAvrLine line → any_found (line ++ 10 ∷ more) ≡ avr_found (line ++ 10 ∷ more)
 
 -- A source that begins with a line of a format is read in that format, whatever follows.
 abbrev pub LineIsShown : Type 0

@@ -1,12 +1,11 @@
--- The timestamps of frames: by their receiver's clock or by their arrival.
-use Rattle.std.specs.Prelude.{◌==◌, ◌+◌, ◌-◌, ◌*◌, ◌%◌, ℕ, Bool, true, ◌||◌, ◌&&◌, max, min, nat_le}
-use Rattle.std.specs.Prelude.{Option, Some, None, if◌then◌else◌}
+-- The timestamps of frames: by their own times or by their arrival.
+use Rattle.std.specs.Prelude.{◌==◌, ◌+◌, ◌-◌, ◌*◌, ◌/◌, ℕ, Bool, not, ◌||◌, ◌&&◌, max, min, nat_le, nat_lt, if◌then◌else◌}
 use Rattle.sq_feed.specs.declared.manner.Manner.{Manner}
-use Rattle.sq_feed.specs.Clock.{Counted, heard, is_told, most, own_moment, rate, restarted, turn, unheard}
+use Rattle.sq_feed.specs.Clock.{Counted, count_of, counted_at, followed, most, rate, restarted, unheard}
 
 -- The state: the receiver's clock; whether arrivals are those of a live source; whether the clock is ignored; the
 -- longest gap (ms) that is no jump; by how much (ms) a timestamp may be before the latest one; the latest timestamp,
--- and the arrival of its frame; and the arrival of the last frame with an accepted clock.
+-- and the arrival of its frame.
 pub record Timing : Type 0 where
   pub clock : Counted
   pub is_live : Bool
@@ -15,26 +14,16 @@ pub record Timing : Type 0 where
   pub late : ℕ
   pub latest : ℕ
   pub arrival : ℕ
-  pub read_at : ℕ
-
--- a day in milliseconds
-abbrev pub day : ℕ
-day = 86400000
-
--- the longest gap of a receiver's clock that is no jump: in a recorded source, receivers are silent for hours
-abbrev pub clock_leap : Manner → ℕ
-clock_leap manner = if manner.is_live then manner.leap else max manner.leap day
 
 abbrev pub no_times : Manner → Timing
 no_times manner = record {
-  clock = unheard (clock_leap manner * rate) (manner.leap * rate) (manner.late * rate);
+  clock = unheard;
   is_live = manner.is_live;
   ignores_clock = manner.ignores_clock;
   leap = manner.leap;
   late = manner.late;
   latest = 0;
   arrival = 0;
-  read_at = 0;
 }
 
 -- the state after a connection was lost
@@ -60,31 +49,47 @@ by_arrival t arrival = gone_on t (due t arrival) arrival
 
 -- ---- a frame with a clock
 
--- the milliseconds since the clock was read, as far as arrivals say
-abbrev pub waited : Timing → ℕ → ℕ
-waited t arrival = if t.is_live then arrival - t.read_at else 0
+-- A clock of 0 counts as none: programs without a clock send 0.
+abbrev pub is_clockless : Timing → ℕ → Bool
+is_clockless t ticks = ticks == 0 || t.ignores_clock
 
--- the timestamp with which a clock starts anew, if the source is live
-abbrev pub anew_of : Timing → ℕ → Option ℕ
-anew_of t arrival = if t.is_live then Some (due t arrival) else None
+-- A live source cannot be ahead of its arrivals. If its timestamps are, by more than a leap, then it is a recording, or
+-- its clock is none of 12 MHz.
+abbrev pub is_ahead_of_arrivals : Timing → Bool
+is_ahead_of_arrivals t = t.is_live && nat_lt (t.arrival + t.leap) t.latest
 
-abbrev pub is_clock_told : Timing → ℕ → ℕ → Bool
-is_clock_told t ticks arrival = is_told t.clock (ticks % turn) (waited t arrival)
+-- The timestamp behind a break in the times: more than a leap after the latest one, so that nothing is paired across
+-- it.
+abbrev pub beyond : Timing → ℕ
+beyond t = min (t.latest + t.leap + 1) most
 
-abbrev pub clock_after : Timing → ℕ → ℕ → Counted
-clock_after t ticks arrival = heard t.clock (ticks % turn) (waited t arrival) (anew_of t arrival)
+-- The timestamp at which a clock goes on that has started again: by the arrival in a live source, otherwise beyond a
+-- leap.
+abbrev pub resumed : Timing → ℕ → ℕ
+resumed t arrival = if t.is_live && not (is_ahead_of_arrivals t) then due t arrival else beyond t
 
-abbrev pub clock_moment : Timing → ℕ → ℕ → ℕ
-clock_moment t ticks arrival = own_moment t.clock (ticks % turn) (waited t arrival) (anew_of t arrival)
+-- The timestamp at which times start again that went back.
+abbrev pub anew_of : Timing → ℕ → ℕ
+anew_of t arrival = if t.clock.is_heard then resumed t arrival else beyond t
 
-abbrev pub by_clock : Timing → ℕ → ℕ → Timing
-by_clock t ticks arrival =
-    if is_clock_told t ticks arrival
-    then gone_on (record t { clock = clock_after t ticks arrival; read_at = arrival })
-    (clock_moment t ticks arrival) arrival
-    else record t { clock = clock_after t ticks arrival }
+-- The count at which a clock starts: in a recorded source the first value itself.
+abbrev pub start_of : Timing → (shown arrival : ℕ) → ℕ
+start_of t shown arrival =
+    if not t.is_live && (t.latest == 0) then shown else min (resumed t arrival * rate) most
 
--- ---- a row with a time of its own
+-- the clock with this value: it goes on, or starts
+abbrev pub clock_at : Timing → (shown arrival : ℕ) → Counted
+clock_at t shown arrival = if t.clock.is_heard then t.clock else counted_at shown (start_of t shown arrival)
+
+-- the frame's own time (ms)
+abbrev pub clock_time : Timing → (shown arrival : ℕ) → ℕ
+clock_time t shown arrival = count_of (clock_at t shown arrival) shown / rate
+
+-- the state after a frame with this value, whose time is believed
+abbrev pub clocked : Timing → (shown arrival : ℕ) → Timing
+clocked t shown arrival = record t { clock = followed (clock_at t shown arrival) shown }
+
+-- ---- a frame with a time of its own
 
 -- A time may always be late by this many milliseconds.
 abbrev pub tolerance : Timing → ℕ
@@ -94,18 +99,7 @@ tolerance t = max t.late 1000
 abbrev pub is_near : Timing → (base moment : ℕ) → Bool
 is_near t base moment = nat_le base (moment + tolerance t) && nat_le moment (base + t.leap)
 
--- ---- any frame
-
--- A clock of 0 counts as none: programs without a clock send 0.
-abbrev pub is_clockless : Timing → ℕ → Bool
-is_clockless t ticks = ticks == 0 || t.ignores_clock
-
--- a frame with a clock has a timestamp
-abbrev pub is_ticks_told : Timing → ℕ → ℕ → Bool
-is_ticks_told t ticks arrival = if is_clockless t ticks then true else is_clock_told t ticks arrival
-
-abbrev pub by_ticks : Timing → ℕ → ℕ → Timing
-by_ticks t ticks arrival = if is_clockless t ticks then by_arrival t arrival else by_clock t ticks arrival
-
-abbrev pub ticks_moment : Timing → ℕ → ℕ → ℕ
-ticks_moment t ticks arrival = if is_clockless t ticks then due t arrival else clock_moment t ticks arrival
+-- The time is at or after the latest timestamp, by as much as the arrivals of a live source are apart, within a leap.
+abbrev pub is_awaited : Timing → (arrival moment : ℕ) → Bool
+is_awaited t arrival moment = t.is_live && nat_le t.latest moment && nat_le moment (due t arrival + t.leap)
+    && nat_le (due t arrival) (moment + t.leap)

@@ -151,7 +151,7 @@ impl Avr {
 
     // Takes one byte of the text.
     #[inline(always)]
-    fn take_byte(&mut self, byte: u8) -> Option<Found>
+    pub(crate) fn take_byte(&mut self, byte: u8) -> Option<Found>
         ensures hex { AreHex self.new.digits }
         ensures follows { Follows (avr_to_come self.old) (byte ∷ []) (option_to_list result) (avr_to_come self.new) }
     {

@@ -285,7 +285,7 @@ pub(crate) fn column_of(name: &[u8], row: &[u8]) -> Option<usize>
 }
 
 // Returns whether a cell has this name, in upper or lower case.
-fn is_named(name: &[u8], cell: &[u8]) -> bool
+pub(crate) fn is_named(name: &[u8], cell: &[u8]) -> bool
     ensures { result ≡ is_named name.now cell.now }
 {
     content_of(cell).eq_ignore_ascii_case(name)

@@ -1,12 +1,14 @@
 //! What becomes of each item: a squitter with its timestamp, or a count.
-ghost use Rattle.std.specs.Prelude.{◌≡◌, ◌≤◌, ◌+◌, ◌++◌, [], ◌∷◌, Bool, MatchOption, None, false, length, true};
+ghost use Rattle.std.specs.Prelude.{◌≡◌, ◌≤◌, ◌%◌, ◌^◌, ◌+◌, ◌++◌, [], ◌∷◌, Bool, MatchOption, None, false, if◌then◌else◌, length, true};
 ghost use Rattle.sq_feed.specs.Counts.{counted_rows};
-ghost use Rattle.sq_feed.specs.Dates.{HasRoom, gone_all, is_dated, judged, timed_all, waiting};
-ghost use Rattle.sq_feed.specs.Ears.{ear_after, ear_at, ear_ended, ear_judged, fate_of, fate_of_long, fate_of_short};
-ghost use Rattle.sq_feed.specs.Ears.{frame_in, is_multilaterated, padded, told_at, told_ended, told_judged, told_of};
-ghost use Rattle.sq_feed.specs.Ears.{untouched, whole_of};
-ghost use Rattle.sq_feed.specs.Times.{other_times};
+ghost use Rattle.sq_feed.specs.Dates.{HasRoom, IsVerdict, gone_all, judged, started, timed_all, waiting};
+ghost use Rattle.sq_feed.specs.Ears.{clock_judged, ear_after, ear_arrived, ear_at, ear_clocked, ear_ended, ear_judged, fate_of};
+ghost use Rattle.sq_feed.specs.Ears.{fate_of_long, fate_of_short, frame_in, is_multilaterated, padded};
+ghost use Rattle.sq_feed.specs.Ears.{told_at, told_clocked, told_ended, told_judged, told_of, untouched};
+ghost use Rattle.sq_feed.specs.Ears.{whole_of, with_row};
+ghost use Rattle.sq_feed.specs.Times.{due, is_ahead_of_arrivals, is_clockless, other_times, told_as};
 
+use crate::clock::RATE;
 use crate::counts::{Counts, Fate};
 use crate::dates::{Dates, Verdict};
 use crate::manner::Manner;
@@ -32,6 +34,7 @@ pub(crate) type Ready = ArrayVec<Timed, 4>;
 pub struct Ear {
     times: Times,
     dates: Dates,
+    is_dated: bool,
     all_formats: bool,
     counts: Counts,
     stranger: Option<Stranger>,
@@ -45,6 +48,7 @@ impl Model for Ear {
     ghost view = { λ s. record {
       times = s.times;
       dates = s.dates;
+      is_dated = s.is_dated;
       all_formats = s.all_formats;
       counts = s.counts;
       stranger = s.stranger;
@@ -59,6 +63,7 @@ impl Ear {
         Ear {
             times: Times::new(manner),
             dates: Dates::new(),
+            is_dated: false,
             all_formats: manner.all_formats,
             counts: Counts::new(),
             stranger: None,
@@ -79,15 +84,30 @@ impl Ear {
         self.stranger
     }
 
-    /// Returns whether a row had a time of its own.
+    /// Returns whether the first time that a frame stated was that of a row.
     pub fn is_dated(&self) -> bool
-        ensures { result ≡ is_dated self.now.dates }
+        ensures { result ≡ self.now.is_dated }
     {
-        self.dates.is_dated()
+        let Ear { is_dated, .. } = self;
+        *is_dated
+    }
+
+    /// Returns how often the times of frames went back.
+    pub fn breaks(&self) -> u64
+        ensures { result ≡ self.now.dates.breaks }
+    {
+        self.dates.breaks()
+    }
+
+    /// Returns whether the timestamps of a live source are ahead of its arrivals by more than a leap.
+    pub fn is_ahead_of_arrivals(&self) -> bool
+        ensures { result ≡ is_ahead_of_arrivals self.now.times }
+    {
+        self.times.is_ahead_of_arrivals()
     }
 
     /// Hears an item that arrived at `arrival` (ms). Returns the timestamp of its frame, if it has one at once. Appends
-    /// the squitters of rows whose times it confirms, itself the last, to those that are ready.
+    /// the squitters whose times it confirms to those that are ready, itself the last.
     #[inline(never)]
     pub fn hear(&mut self, found: &Found, arrival: u64, ready: &mut Ready) -> Option<u64>
         requires { length ready.old.items + length (waiting self.old.dates) ≤ 3 }
@@ -115,8 +135,8 @@ impl Ear {
         }
     }
 
-    /// Decides about rows that wait, since no other row comes. Appends the squitters of those that get timestamps.
-    pub fn end_rows(&mut self, ready: &mut Ready)
+    /// Decides about frames that wait, since no other frame comes. Appends the squitters that get timestamps.
+    pub fn end(&mut self, ready: &mut Ready)
         requires { length ready.old.items + length (waiting self.old.dates) ≤ 3 }
         ensures kept { self.new ≡ ear_ended self.old }
         ensures told { ready.new.items ≡ ready.old.items ++ told_ended self.old }
@@ -190,21 +210,97 @@ impl Ear {
         ensures room { HasRoom ready.new.items self.new.dates }
     {
         match message.time {
-            Time::Unknown => {
-                self.counts.count(Fate::Written);
-                Some(self.times.hear_arrival(arrival))
+            Time::Unknown => Some(self.hear_arrival(arrival)),
+            Time::Ticks(ticks) => {
+                if self.times.is_clockless(ticks) {
+                    Some(self.hear_arrival(arrival))
+                } else {
+                    self.hear_clock(ticks, &message.frame, arrival, ready)
+                }
             }
-            Time::Ticks(ticks) => match self.times.hear_ticks(ticks, arrival) {
-                Some(moment) => {
-                    self.counts.count(Fate::Written);
-                    Some(moment)
-                }
-                None => {
-                    self.counts.count(Fate::Aside);
-                    None
-                }
-            },
             Time::Millis(moment) => self.hear_row(moment, &message.frame, arrival, ready),
+        }
+    }
+
+    // Hears a frame without a time, and returns its timestamp.
+    fn hear_arrival(&mut self, arrival: u64) -> u64
+        ensures kept { self.new ≡ ear_arrived arrival self.old }
+        ensures told { result ≡ told_as self.old.times (due self.old.times arrival) }
+    {
+        self.counts.count(Fate::Written);
+        self.times.hear_arrival(arrival)
+    }
+
+    // Hears a frame with a clock. Most follow the latest timestamp within a leap, and no frame waits.
+    #[inline(always)]
+    fn hear_clock(
+        &mut self,
+        ticks: u64,
+        frame: &RawFrame,
+        arrival: u64,
+        ready: &mut Ready,
+    ) -> Option<u64>
+        requires clock { is_clockless self.old.times ticks ≡ false }
+        requires room { length ready.old.items + length (waiting self.old.dates) ≤ 3 }
+        ensures kept { self.new ≡ ear_at (Time.Ticks ticks) arrival self.old (whole_of frame.now) }
+        ensures told { MatchOption result
+            (ready.new.items ≡ ready.old.items ++ told_at (Time.Ticks ticks) arrival self.old (whole_of frame.now))
+            (λ told. (ready.new ≡ ready.old) × (told_at (Time.Ticks ticks) arrival self.old (whole_of frame.now)
+            ≡ record { moment = told; frame = whole_of frame.now } ∷ [])) }
+        ensures room { HasRoom ready.new.items self.new.dates }
+    {
+        if self.dates.is_calm() && self.times.has_clock() {
+            let count = self.times.count(ticks);
+            let moment = self.dates.own(count / RATE);
+            if self.times.follows(moment) {
+                self.counts.count_rows(1, 0);
+                self.times.advance(ticks, count, moment, arrival);
+                return Some(moment);
+            }
+        }
+        let frame = whole_of(frame);
+        self.hear_clock_jump(ticks, frame, arrival, ready);
+        None
+    }
+
+    // Hears a frame with a clock that does not fit, or comes while others wait.
+    #[cold]
+    #[inline(never)]
+    fn hear_clock_jump(&mut self, ticks: u64, frame: [u8; 14], arrival: u64, ready: &mut Ready)
+        requires { length ready.old.items + length (waiting self.old.dates) ≤ 3 }
+        ensures kept { self.new ≡ ear_clocked self.old (ticks % 2 ^ 48) arrival
+            (clock_judged self.old (ticks % 2 ^ 48) arrival frame) }
+        ensures told { ready.new.items ≡ ready.old.items ++ told_clocked self.old (ticks % 2 ^ 48) arrival
+            (clock_judged self.old (ticks % 2 ^ 48) arrival frame) }
+        ensures room { HasRoom ready.new.items self.new.dates }
+    {
+        let starts = !self.times.has_clock();
+        let count = if starts {
+            self.times.start(ticks, arrival)
+        } else {
+            self.times.count(ticks)
+        };
+        let one = Timed {
+            moment: count / RATE,
+            frame,
+        };
+        let verdict = self.judge_clock(starts, arrival, one);
+        if self.dates.is_calm() {
+            self.times.follow(ticks, count);
+        }
+        self.tell(&verdict, arrival, ready);
+    }
+
+    // Decides about a frame with a clock, which starts it or goes on with it.
+    fn judge_clock(&mut self, starts: bool, arrival: u64, one: Timed) -> Verdict
+        ensures verdict { IsVerdict (if starts then started self.old.dates one
+            else judged self.old.times self.old.dates arrival one) result self.new.dates }
+        ensures same { self.new ≡ record self.old { dates = self.new.dates } }
+    {
+        if starts {
+            self.dates.start(one)
+        } else {
+            self.dates.judge(&self.times, arrival, one)
         }
     }
 
@@ -225,13 +321,23 @@ impl Ear {
             ≡ record { moment = told; frame = whole_of frame.now } ∷ [])) }
         ensures room { HasRoom ready.new.items self.new.dates }
     {
-        if self.dates.is_calm() && self.dates.is_fit(&self.times, moment) {
+        if self.dates.is_calm() && self.dates.is_fit(&self.times, arrival, moment) {
             self.counts.count_rows(1, 0);
             return Some(self.times.go_on(self.dates.own(moment), arrival));
         }
         let frame = whole_of(frame);
+        self.note_row();
         self.hear_jump(Timed { moment, frame }, arrival, ready);
         None
+    }
+
+    // Notes that a row stated its time, if it is the first time.
+    fn note_row(&mut self)
+        ensures { self.new ≡ with_row self.old }
+    {
+        if !self.dates.is_timed() {
+            self.is_dated = true;
+        }
     }
 
     // Hears a row that does not fit, or comes while others wait.
@@ -239,12 +345,12 @@ impl Ear {
     #[inline(never)]
     fn hear_jump(&mut self, one: Timed, arrival: u64, ready: &mut Ready)
         requires { length ready.old.items + length (waiting self.old.dates) ≤ 3 }
-        ensures kept { self.new ≡ ear_judged arrival self.old (judged self.old.times self.old.dates one) }
+        ensures kept { self.new ≡ ear_judged arrival self.old (judged self.old.times self.old.dates arrival one) }
         ensures told { ready.new.items
-            ≡ ready.old.items ++ told_judged arrival self.old (judged self.old.times self.old.dates one) }
+            ≡ ready.old.items ++ told_judged arrival self.old (judged self.old.times self.old.dates arrival one) }
         ensures room { HasRoom ready.new.items self.new.dates }
     {
-        let verdict = self.dates.judge(&self.times, one);
+        let verdict = self.dates.judge(&self.times, arrival, one);
         self.tell(&verdict, arrival, ready);
     }
 
@@ -255,8 +361,8 @@ impl Ear {
             ≡ gone_all self.old.dates arrival self.old.times verdict.now.told.items }
         ensures counts { self.new.counts
             ≡ counted_rows self.old.counts (length verdict.now.told.items) verdict.now.aside }
-        ensures same { (self.new.dates ≡ self.old.dates) × (self.new.all_formats ≡ self.old.all_formats)
-            × (self.new.stranger ≡ self.old.stranger) }
+        ensures same { (self.new.dates ≡ self.old.dates) × (self.new.is_dated ≡ self.old.is_dated)
+            × (self.new.all_formats ≡ self.old.all_formats) × (self.new.stranger ≡ self.old.stranger) }
         ensures told { ready.new.items ≡ ready.old.items
             ++ timed_all self.old.dates arrival self.old.times verdict.now.told.items }
     {

@@ -1,10 +1,10 @@
 //! Squitters and their timestamps from a source's bytes, as they come.
 ghost use Rattle.std.specs.Prelude.{◌≡◌, ◌⊎◌, ◌+◌, ◌++◌, ◌≤◌, ◌<◌, [], ◌∷◌, false, length, take, true};
-ghost use Rattle.sq_feed.specs.Dates.{is_dated};
 ghost use Rattle.sq_feed.specs.Ears.{ear_after, told_of};
 ghost use Rattle.sq_feed.specs.Feeds.{HasClosedFeed, HasLost, HasSettled, HasTold, format_of_source, nothing_fed};
 ghost use Rattle.sq_feed.specs.Feeds.{steps_for, steps_left, stored};
 ghost use Rattle.sq_feed.specs.Readers.{HasEnded, IsEnding};
+ghost use Rattle.sq_feed.specs.Times.{is_ahead_of_arrivals};
 
 use crate::counts::Counts;
 use crate::ear::{Ear, Ready, frame_in, whole_of};
@@ -55,8 +55,8 @@ impl Feed {
 
     /// Takes bytes of a piece that arrived at `arrival` (ms), up to the end of the first item, or all of them. Stores
     /// the item's squitter in the slot, if it has one. While the format is unknown, bytes are taken without squitters.
-    /// Those of the first items follow in later steps, which may have no bytes. So do the squitters of rows that waited
-    /// for others to confirm their times.
+    /// Those of the first items follow in later steps, which may have no bytes. So do squitters that waited for others
+    /// to confirm their times.
     ///
     /// `COPY` changes nothing. LLVM inlines a step that has one caller, and each number is a copy of its own: two
     /// loops of one program take two numbers.
@@ -103,13 +103,13 @@ impl Feed {
         self.reader.close();
     }
 
-    /// Decides about rows that wait for others to confirm their times, since none comes: at the end of a source, once
+    /// Decides about frames that wait for others to confirm their times, since none comes: at the end of a source, once
     /// all its squitters are given. Those that get timestamps come with the next steps.
     pub fn settle(&mut self)
         ensures { HasSettled self.old self.new }
     {
         let Feed { ear, ready, .. } = self;
-        ear.end_rows(ready);
+        ear.end(ready);
     }
 
     /// Returns the format of the source, once it is known.
@@ -129,13 +129,29 @@ impl Feed {
 
     /// Returns whether timestamps are the source's own, and not those of a receiver's clock or of arrivals.
     pub fn is_dated(&self) -> bool
-        ensures { result ≡ is_dated self.now.ear.dates }
+        ensures { result ≡ self.now.ear.is_dated }
     {
         self.ear.is_dated()
     }
 
-    /// Drops an unfinished frame after a lost connection, and counts it as damaged. Decides about rows that wait: those
-    /// that get timestamps come with the next steps. The next bytes belong to a new connection: its clock starts
+    /// Returns how often the times of a source went back. Behind such a break, timestamps go on after the latest one:
+    /// in a live source with a clock by the arrival, otherwise by more than a leap.
+    pub fn breaks(&self) -> u64
+        ensures { result ≡ self.now.ear.dates.breaks }
+    {
+        self.ear.breaks()
+    }
+
+    /// Returns whether the timestamps of a live source are ahead of its arrivals by more than a leap. Then it is a
+    /// recording, or its clock does not run at 12 MHz.
+    pub fn is_ahead_of_arrivals(&self) -> bool
+        ensures { result ≡ is_ahead_of_arrivals self.now.ear.times }
+    {
+        self.ear.is_ahead_of_arrivals()
+    }
+
+    /// Drops an unfinished frame after a lost connection, and counts it as damaged. Decides about frames that wait:
+    /// those that get timestamps come with the next steps. The next bytes belong to a new connection: its clock starts
     /// afresh.
     pub fn disconnected(&mut self)
         ensures { HasLost self.old self.new }
@@ -144,7 +160,7 @@ impl Feed {
         if let Some(found) = last {
             let _ = self.ear.hear(&found, 0, &mut self.ready);
         }
-        self.ear.end_rows(&mut self.ready);
+        self.ear.end(&mut self.ready);
         self.ear.restart();
         self.reader.restart();
     }

@@ -1,7 +1,7 @@
 //! Finds the format of a source by its first bytes, and keeps them.
 ghost use Rattle.std.specs.Prelude.{◌≡◌, ◌==◌, ◌++◌, ◌+◌, ◌<◌, ◌≤◌, ℕ, List, [], ◌∷◌, if◌then◌else◌, length, nat_lt, option_to_list, take};
-ghost use Rattle.sq_feed.specs.Finding.{HasShown, beast_of, byte_sign, in_turn, in_turn_after, limit, named, nothing_seen};
-ghost use Rattle.sq_feed.specs.Finding.{remembered, shown_after};
+ghost use Rattle.sq_feed.specs.Finding.{HasShown, beast_of, byte_sign, in_turn, in_turn_after, limit, limit_sign};
+ghost use Rattle.sq_feed.specs.Finding.{named, named_after, nothing_seen, remembered, shown_after};
 
 use crate::beast::Beast;
 use crate::machine::Format;
@@ -93,7 +93,7 @@ impl Finder {
         } else if self.held.is_empty() {
             Sign::Unclear
         } else {
-            Sign::Other(named(remembered(self.stranger, last)))
+            named_after(self.stranger, last)
         };
         first_shown(last, otherwise)
     }
@@ -182,13 +182,13 @@ impl Finder {
         self.stranger = remembered(self.stranger, sign);
     }
 
-    // Returns the sign of this many bytes: at the limit, that there are no frames.
+    // Returns the sign of this many bytes: at the limit, that of the line that has begun, or that there are no frames.
     fn limit_sign(&self) -> Sign
-        ensures { result ≡ (if length self.now.held == limit then Sign.Other (named self.now.text.stranger)
-            else Sign.Unclear) }
+        ensures { result ≡ (if length self.now.held == limit then limit_sign self.now.text else Sign.Unclear) }
     {
         if self.held.len() == LIMIT {
-            Sign::Other(named(self.stranger))
+            let last = line_sign(&self.held.as_slice()[self.line..]);
+            first_shown(last, named_after(self.stranger, last))
         } else {
             Sign::Unclear
         }
@@ -217,6 +217,13 @@ fn remembered(stranger: Option<Stranger>, sign: Sign) -> Option<Stranger>
         (None, Sign::Unclear) => None,
         (None, Sign::Shows(_)) => None,
     }
+}
+
+// Returns what a source without a format is whose last line has this sign.
+fn named_after(stranger: Option<Stranger>, last: Sign) -> Sign
+    ensures { result ≡ named_after stranger last }
+{
+    Sign::Other(named(remembered(stranger, last)))
 }
 
 // Returns what a source without a format is.

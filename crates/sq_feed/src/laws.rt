@@ -2,7 +2,7 @@
 ghost use Rattle.std.specs.Prelude.{true};
 ghost use Rattle.sq_feed.specs.Laws.{GivesTheStream, Sent, SentIsFound};
 ghost use Rattle.sq_feed.specs.Laws.{SentIsFoundAnywhere, StartSplits};
-ghost use Rattle.sq_feed.specs.Shown.{BeastIsShown, LineIsShown, SentBeastIsShown, SentTextIsShown};
+ghost use Rattle.sq_feed.specs.Shown.{AvrLineIsShown, BeastIsShown, LineIsShown, SentBeastIsShown, SentTextIsShown};
 ghost use Rattle.sq_feed.specs.Avr.{BareFrameIsFound, SentFrameIsFound};
 ghost use Rattle.sq_feed.specs.Ears.{CountsAtEnd, CountsEach, StaysNear, StaysNearAtEnd};
 ghost use Rattle.sq_feed.specs.Feeds.{FeedsBoth, FeedsGoOn, FeedsTheWhole};
@@ -18,12 +18,13 @@ pub fn sent_is_found()
     ensures anywhere { SentIsFoundAnywhere }
 {}
 
-/// A source in a known format is found without `--format`: Beast with any clocks and frames, AVR text, and a log, a
-/// table or bare frames by the first line. The whole source is then read in that format.
+/// A source in a known format is found without `--format`: Beast with any clocks and frames, AVR text with any text
+/// before its first frame, and a log or a table by the first line. The whole source is then read in that format.
 pub fn sent_is_shown()
     ensures start { BeastIsShown }
     ensures beast { SentBeastIsShown }
     ensures text { SentTextIsShown }
+    ensures anywhere { AvrLineIsShown }
     ensures line { LineIsShown }
 {}
 
@@ -37,8 +38,8 @@ pub fn cutting_is_nothing()
     ensures { GivesTheStream }
 {}
 
-/// While no gap is a jump, the timestamps of a clock are as far apart as its true counts, however often its 48 bits
-/// wrap.
+/// While no gap is half a turn of 48 bits, the counts of a clock are as far apart as the receiver's true counts,
+/// however often these bits wrap.
 pub fn clock_keeps_the_time()
     ensures { KeepsTheTime }
 {}
@@ -88,8 +89,8 @@ pub fn timestamps_stay_near()
     ensures end { StaysNearAtEnd }
 {}
 
-/// Each item is counted once, and each squitter with a timestamp is counted as written. A row that waits for others to
-/// confirm its time is counted when that is decided, at the latest at the end.
+/// Each item is counted once, and each squitter with a timestamp is counted as written. A frame that waits for others
+/// to confirm its time is counted when that is decided, at the latest at the end.
 pub fn each_item_is_counted()
     ensures items { CountsEach }
     ensures end { CountsAtEnd }

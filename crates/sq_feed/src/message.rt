@@ -1,7 +1,7 @@
 //! What a source's bytes hold: messages, and damage between them.
 ghost use Rattle.std.specs.Prelude.{◌≡◌, ◌≤◌, length, take};
 ghost use Rattle.std.specs.Int.Digits.{number_from_digits};
-ghost use Rattle.sq_feed.specs.Kinds.{frame_len, frame_of, kind_of, message_len, message_of};
+ghost use Rattle.sq_feed.specs.Kinds.{frame_len, frame_of, is_mode_s, kind_of, message_len, message_of};
 
 /// The length of a frame in bytes.
 #[derive(Clone, Copy)]
@@ -66,6 +66,18 @@ pub enum Stranger {
     Utf16,
     /// Lines of JSON.
     Json,
+    /// A table with semicolons between its columns.
+    Semicolons,
+    /// A table with tabs between its columns.
+    Tabs,
+    /// A table with a column `rawmsg`, and no column `time`, `mintime` or `timestamp`.
+    NoTime,
+    /// A table with columns of the time and `icao24`, and no column `rawmsg`.
+    NoRawmsg,
+    /// A table with frames in its third column, and no seconds in its first one.
+    NoSeconds,
+    /// A table with frames in another column than the third, and no names of its columns.
+    NoNames,
     /// Bytes without any frame.
     NoFrame,
 }
@@ -79,6 +91,17 @@ pub enum Found {
     Damage,
     ReceiverId,
     Foreign(Stranger),
+}
+
+// Returns whether a frame is of Mode S.
+pub(crate) fn is_mode_s(frame: RawFrame) -> bool
+    ensures { result ≡ is_mode_s frame }
+{
+    match frame {
+        RawFrame::ModeAc(_) => false,
+        RawFrame::Short(_) => true,
+        RawFrame::Long(_) => true,
+    }
 }
 
 // Returns the kind that a type byte starts.

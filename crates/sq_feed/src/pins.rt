@@ -1,6 +1,6 @@
 //! Guards of the definitions: each has one value, some value or an exact condition, so none can be weakened unnoticed.
 //! A function with an empty body does nothing: its contract is the statement.
-ghost use Rattle.std.specs.Prelude.{◌≡◌, ◌≢◌, ◌↔◌, ◌++◌, codes, ◌+◌, ◌*◌, ◌^◌, ◌%◌, ◌<◌, ◌≤◌, ℕ, List, [], ◌∷◌, length};
+ghost use Rattle.std.specs.Prelude.{◌≡◌, ◌≢◌, ◌↔◌, ◌++◌, codes, ◌+◌, ◌-◌, ◌*◌, ◌^◌, ◌%◌, ◌<◌, ◌≤◌, ℕ, List, [], ◌∷◌, length};
 ghost use Rattle.std.specs.Prelude.{◌⊎◌, None, false, replicate, take};
 ghost use Rattle.std.specs.Prelude.{max, Option, Some, map, option_to_list, true};
 ghost use Rattle.sq_feed.specs.declared.message.Found.{Found as Item};
@@ -8,18 +8,21 @@ ghost use Rattle.sq_feed.specs.Laws.{AreSent, AreTakes, IsFoundOnce, IsReadOnce,
 ghost use Rattle.sq_feed.specs.Avr.{AreHex, AvrSent, IsSent, avr_found, lead, mark_of};
 ghost use Rattle.sq_feed.specs.Dates.{HasRoom, waiting};
 ghost use Rattle.sq_feed.specs.declared.dates.Dates.{Dates as Waits};
-ghost use Rattle.sq_feed.specs.Ears.{AreNear, ear_after_all, ear_ended, lost, recorded_rows, row_at, row_times};
+ghost use Rattle.sq_feed.specs.Ears.{AreNear, clock_item, clock_times, ear_after_all, ear_ended, live_times, lost};
+ghost use Rattle.sq_feed.specs.Ears.{new_source, row_at, row_times};
 ghost use Rattle.sq_feed.specs.Ears.{told_ended, told_of_all};
 ghost use Rattle.sq_feed.specs.Feeds.{AreFed, Fed, Feeding, HasClosedFeed, HasFed};
 ghost use Rattle.sq_feed.specs.Feeds.{HasLost, HasSettled, HasTold, HasToldLast, steps_left, stored};
-ghost use Rattle.sq_feed.specs.Finding.{any_found, bare_item, marked_sign, millis_item};
+ghost use Rattle.sq_feed.specs.Finding.{any_found, bare_item, has_frame, marked_sign, millis_item, sign_of_line};
+ghost use Rattle.sq_feed.specs.Finding.{sign_of_row};
 ghost use Rattle.sq_feed.specs.Kinds.{frame_len, message_len};
 ghost use Rattle.sq_feed.specs.Readers.{HasClosed, HasEnded, IsEnding, IsNew, Reads, awaited, calls_left, items_as};
 ghost use Rattle.sq_feed.specs.Readers.{lost_items};
-ghost use Rattle.sq_feed.specs.Shown.{IsTextLine};
+ghost use Rattle.sq_feed.specs.Shown.{IsAvrLine, IsTextLine};
+ghost use Rattle.sq_feed.specs.Tables.{is_row_of, unread_table};
 ghost use Rattle.std.specs.List.{AllByRecursion};
-ghost use Rattle.sq_feed.specs.Clock.{AreHeardAt, AreSoon, Counted, Hearing, IsHeard};
-ghost use Rattle.sq_feed.specs.Rows.{BegunRow, IsHeld, csv_start, rows_from};
+ghost use Rattle.sq_feed.specs.Clock.{AreNearby, Counted, HasCounted, count_of, counted_at, counts_of};
+ghost use Rattle.sq_feed.specs.Rows.{BegunRow, IsHeld, csv_start, row_read, rows_from};
 ghost use Rattle.sq_feed.specs.declared.message.Timed.{Timed};
 ghost use Rattle.sq_feed.specs.Orders.{AreCalled, AreSorted, HasFlushed, HasSorted, IsCalled, RiseFrom, Sorted, Sorting};
 ghost use Rattle.sq_feed.specs.Orders.{given_all, last_given, late_all, nothing_sorted, sorted_all, timed_at};
@@ -73,17 +76,25 @@ pub fn sent_exactly()
         × (length sent.digits ≡ 2 * (lead sent.mark + frame_len sent.size))) }
 {}
 
-/// Successive counts of a clock: each is at or after the previous one, by at most `leap`, and the receiver sends its
-/// low 48 bits.
+/// Successive true counts of a receiver: each is within half a turn of the previous one, and is counted from 0 on. The
+/// state of a clock agrees with them.
 pub fn counts_exactly()
-    ensures none { (leap ticks : ℕ) → AreSoon leap ticks [] }
-    ensures more { (leap ticks next : ℕ) (more : List ℕ)
-        → AreSoon leap ticks (next ∷ more) ↔ ((ticks ≤ next) × (next ≤ ticks + leap) × AreSoon leap next more) }
-    ensures unheard { (before : Counted) (start first : ℕ) → AreHeardAt before start first [] [] }
-    ensures heard { (before : Counted) (start first count : ℕ) (counts : List ℕ) (one : Hearing) (others : List Hearing)
-        → AreHeardAt before start first (count ∷ counts) (one ∷ others)
-        ↔ ((one.shown ≡ count % 2 ^ 48) × (start + count < first + 2 ^ 64)
-        × IsHeard before one.shown one.waited one.after × AreHeardAt one.after start first counts others) }
+    ensures none { (start first ticks : ℕ) → AreNearby start first ticks [] }
+    ensures more { (start first ticks next : ℕ) (more : List ℕ) → AreNearby start first ticks (next ∷ more)
+        ↔ ((next < ticks + 2 ^ 47) × (ticks < next + 2 ^ 47) × (first ≤ start + next)
+        × (start + next < first + 2 ^ 64) × AreNearby start first next more) }
+    ensures agrees { (counted : Counted) (start first ticks : ℕ) → HasCounted counted start first ticks
+        ↔ ((counted.last ≡ ticks % 2 ^ 48) × (counted.elapsed + first ≡ start + ticks)) }
+{}
+
+/// The counts of 48-bit values: behind a wrap, before one, half a turn away, and beyond both limits.
+pub fn counts_in_numbers()
+    ensures wraps { counts_of (counted_at (2 ^ 48 - 1) 7) (0 ∷ (2 ^ 48 - 2) ∷ 5 ∷ []) ≡ 8 ∷ 6 ∷ 13 ∷ [] }
+    ensures forward { count_of (counted_at 5 (2 ^ 48)) (5 + 2 ^ 47 - 1) ≡ 2 ^ 48 + 2 ^ 47 - 1 }
+    ensures back { count_of (counted_at 5 (2 ^ 48)) (5 + 2 ^ 47) ≡ 2 ^ 47 }
+    ensures zero { count_of (counted_at 5 5) 0 ≡ 0 }
+    ensures below { count_of (counted_at 5 4) 0 ≡ 0 }
+    ensures most { count_of (counted_at 5 (2 ^ 64 - 2)) 9 ≡ 2 ^ 64 - 1 }
 {}
 
 /// The calls of a feed: the squitters that they give, and the state that they leave.
@@ -112,20 +123,50 @@ pub fn feeds_exactly()
         × (new.ready ≡ old.ready ++ told_ended (ear_after_all 0 old.ear (lost_items old.reader)))) }
 {}
 
-/// The timestamps of rows, with a leap of ten minutes: regular rows; a first row alone, and before regular ones if its
-/// time is far ahead; one wild row after the first; rows that jump ahead by an hour; and rows that go back.
+/// The timestamps of rows in a recording, with a leap of ten minutes: regular rows; a first row alone, and before
+/// regular ones if its time is far ahead; one wild row after the first, among those that jump, and behind them; rows
+/// that jump ahead by an hour, and each by an hour; rows that go back; and late rows.
 pub fn rows_in_times()
     ensures regular { row_times (1000 ∷ 2000 ∷ 601000 ∷ []) ≡ 1000 ∷ 2000 ∷ 601000 ∷ [] }
     ensures first { row_times (1000 ∷ []) ≡ 1000 ∷ [] }
-    ensures waits { told_of_all 0 recorded_rows (map row_at (1000 ∷ [])) ≡ [] }
+    ensures waits { told_of_all 0 (new_source false) (map row_at (1000 ∷ [])) ≡ [] }
     ensures wild { row_times (90000000 ∷ 1000 ∷ 2000 ∷ 3000 ∷ []) ≡ 1000 ∷ 2000 ∷ 3000 ∷ [] }
     ensures second { row_times (1000 ∷ 90000000 ∷ 2000 ∷ []) ≡ 1000 ∷ 2000 ∷ [] }
     ensures ahead { row_times (1000 ∷ 2000 ∷ 3602001 ∷ 3603000 ∷ 3604000 ∷ [])
         ≡ 1000 ∷ 2000 ∷ 3602001 ∷ 3603000 ∷ 3604000 ∷ [] }
+    ensures hours { row_times (1000 ∷ 3600000 ∷ 7200000 ∷ 10800000 ∷ 14400000 ∷ [])
+        ≡ 1000 ∷ 3600000 ∷ 7200000 ∷ 10800000 ∷ 14400000 ∷ [] }
+    ensures between { row_times (1000 ∷ 1001 ∷ 1512549 ∷ 1285015 ∷ 1512550 ∷ [])
+        ≡ 1000 ∷ 1001 ∷ 1512549 ∷ 1512550 ∷ [] }
+    ensures behind { row_times (1000 ∷ 1001 ∷ 3602001 ∷ 90000000 ∷ 3602002 ∷ 3602003 ∷ [])
+        ≡ 1000 ∷ 1001 ∷ 3602001 ∷ 3602002 ∷ 3602003 ∷ [] }
+    ensures third { row_times (1000 ∷ 1001 ∷ 3602001 ∷ 3603000 ∷ 90000000 ∷ 3604000 ∷ [])
+        ≡ 1000 ∷ 1001 ∷ 3602001 ∷ 3603000 ∷ 3604000 ∷ [] }
+    ensures torn { row_times (1000 ∷ 1001 ∷ 90000000 ∷ 80000000 ∷ []) ≡ 1000 ∷ 1001 ∷ [] }
     ensures two { row_times (1000 ∷ 2000 ∷ 602001 ∷ 3000 ∷ []) ≡ 1000 ∷ 2000 ∷ 3000 ∷ [] }
     ensures back { row_times (9000000 ∷ 9001000 ∷ 5000 ∷ 6000 ∷ 7000 ∷ [])
         ≡ 9000000 ∷ 9001000 ∷ 9601001 ∷ 9602001 ∷ 9603001 ∷ [] }
     ensures late { row_times (5000 ∷ 6000 ∷ 5000 ∷ 4999 ∷ 7000 ∷ []) ≡ 5000 ∷ 6000 ∷ 6000 ∷ 7000 ∷ [] }
+{}
+
+/// The timestamps of frames with a clock, which wait and are told as rows are, but for the first. In a live source, the
+/// first is that of the arrival, and a clock that starts again goes on by the arrival.
+pub fn clocks_in_times()
+    ensures wild { clock_times (1000 ∷ 3601000 ∷ 1100 ∷ 1200 ∷ []) ≡ 1000 ∷ 1100 ∷ 1200 ∷ [] }
+    ensures first { clock_times (90000000 ∷ 1000 ∷ 2000 ∷ 3000 ∷ [])
+        ≡ 90000000 ∷ 90600001 ∷ 90601001 ∷ 90602001 ∷ [] }
+    ensures night { clock_times (1000 ∷ 90001000 ∷ 180001000 ∷ 180002000 ∷ [])
+        ≡ 1000 ∷ 90001000 ∷ 180001000 ∷ 180002000 ∷ [] }
+    ensures back { clock_times (9000000 ∷ 9001000 ∷ 5000 ∷ 6000 ∷ 7000 ∷ [])
+        ≡ 9000000 ∷ 9001000 ∷ 9601001 ∷ 9602001 ∷ 9603001 ∷ [] }
+    ensures live { live_times (50 ∷ 60 ∷ []) ≡ 100000000 ∷ 100000010 ∷ [] }
+    ensures at_once { length (told_of_all 0 (new_source false) (map clock_item (50 ∷ []))) ≡ 1 }
+    ensures restarted { live_times (9000000 ∷ 9000100 ∷ 5000 ∷ 5001 ∷ 5002 ∷ 5003 ∷ [])
+        ≡ 100000000 ∷ 100000100 ∷ 100000100 ∷ 100000101 ∷ 100000102 ∷ 100000103 ∷ [] }
+    ensures recorded { live_times (9000000 ∷ 9601000 ∷ 9601001 ∷ 9601002 ∷ 5000 ∷ 5001 ∷ 5002 ∷ [])
+        ≡ 100000000 ∷ 100601000 ∷ 100601001 ∷ 100601002 ∷ 101201003 ∷ 101201004 ∷ 101201005 ∷ [] }
+    ensures breaks { (ear_after_all 0 (new_source false)
+        (map clock_item (9000000 ∷ 9001000 ∷ 5000 ∷ 6000 ∷ 7000 ∷ []))).dates.breaks ≡ 1 }
 {}
 
 /// A reader at the start of a source, and one after the end of its source.
@@ -138,9 +179,16 @@ pub fn readers_exactly()
     ensures ending { (reads : Reads) → IsEnding reads.stage → 0 < calls_left reads }
 {}
 
-/// A line of text can show a format.
+/// A line of text can show a format, and one of AVR text shows it with any text before its frame.
 pub fn lines_exactly()
-    ensures { (line : List ℕ) → IsTextLine line ↔ ((length line ≤ 512) × AllByRecursion (λ byte. byte ≢ 10) line
+    ensures avr { (line : List ℕ) → IsAvrLine line ↔ ((length line < 16384)
+        × AllByRecursion (λ byte. byte ≢ 10) line × AllByRecursion (λ byte. byte ≢ 26) line
+        × (sign_of_line (row_read Layout.Log line) ≡ Sign.Unclear)
+        × (sign_of_row (row_read csv_start line) ≡ Sign.Unclear) × (is_row_of 59 line ≡ false)
+        × (has_frame (avr_found line) ≡ true)) }
+    ensures prefix { IsAvrLine (codes "rx1: *02E197B00179C3;") }
+    ensures carriage { IsAvrLine (13 ∷ codes "*8D40621D58C382D690C8AC2863A7;") }
+    ensures text { (line : List ℕ) → IsTextLine line ↔ ((length line ≤ 512) × AllByRecursion (λ byte. byte ≢ 10) line
         × AllByRecursion (λ byte. byte ≢ 26) line
         × ((front back : List ℕ) → line ≡ front ++ 59 ∷ back → marked_sign front ≡ Sign.Unclear)) }
 {}
@@ -161,6 +209,37 @@ pub fn formats_in_letters()
     ensures last { any_found (codes "{}") ≡ Found.Foreign Stranger.Json ∷ [] }
     ensures outweighed { any_found (codes "MSG,3" ++ 10 ∷ codes "7 2040")
         ≡ Found.Damage ∷ millis_item 7 64 ∷ [] }
+    ensures carriage { any_found (13 ∷ codes "*8D40621D58C382D690C8AC2863A7;" ++ 10 ∷ [])
+        ≡ avr_found (codes "*8D40621D58C382D690C8AC2863A7;") }
+    ensures indented { any_found (codes "  *02E197B00179C3;" ++ 10 ∷ [])
+        ≡ Found.Damage ∷ avr_found (codes "*02E197B00179C3;") }
+    ensures behind { any_found (codes "rx1: *02E197B00179C3;")
+        ≡ Found.Damage ∷ Found.Damage ∷ avr_found (codes "*02E197B00179C3;") }
+    ensures by_itself { any_found (codes "02E197B00179C3") ≡ avr_found (codes "*02E197B00179C3;") }
+    ensures in_json { any_found (codes "{}*02E197B00179C3;" ++ 10 ∷ codes "7 *2040;")
+        ≡ Found.Damage ∷ avr_found (codes "*02E197B00179C3;") ++ Found.Damage ∷ bare_item 64 ∷ [] }
+    ensures four { any_found (codes "x *2040;" ++ 10 ∷ codes "7 *2040;") ≡ Found.Damage ∷ millis_item 7 64 ∷ [] }
+{}
+
+/// Tables that are not read are told apart by their first row that has a frame or names columns.
+#[tactic(auto, unfolding(crate::specs::Finding::line_sign, crate::specs::Finding::start_sign))]
+pub fn tables_in_letters()
+    ensures semicolons { any_found (codes "time;rawmsg") ≡ Found.Foreign Stranger.Semicolons ∷ [] }
+    ensures decimals { any_found (codes "1,5;x;02E197B00179C3") ≡ Found.Foreign Stranger.Semicolons ∷ [] }
+    ensures tabs { any_found (codes "1.5" ++ 9 ∷ codes "02E197B00179C3") ≡ Found.Foreign Stranger.Tabs ∷ [] }
+    ensures no_time { any_found (codes "icao24,RawMsg" ++ 10 ∷ codes "x;rawmsg")
+        ≡ Found.Foreign Stranger.NoTime ∷ [] }
+    ensures no_rawmsg { any_found (codes "time,icao24,lat") ≡ Found.Foreign Stranger.NoRawmsg ∷ [] }
+    ensures millis { any_found (codes "1700000000000,x,02E197B00179C3")
+        ≡ Found.Foreign Stranger.NoSeconds ∷ [] }
+    ensures dates { any_found (codes "2023-11-14T22:13:20Z,x,02E197B00179C3")
+        ≡ Found.Foreign Stranger.NoSeconds ∷ [] }
+    ensures no_names { any_found (codes "1.5,02E197B00179C3") ≡ Found.Foreign Stranger.NoNames ∷ [] }
+    ensures without { any_found (codes "time,lat") ≡ Found.Foreign Stranger.NoFrame ∷ [] }
+    ensures outweighed { any_found (codes "rawmsg;time" ++ 10 ∷ codes "1.5,x,2040")
+        ≡ Found.Damage ∷ millis_item 1500 64 ∷ [] }
+    ensures longest { unread_table (codes "1.5x,x,02E197B00179C3," ++ replicate 490 120) ≡ Some Stranger.NoSeconds }
+    ensures longer { unread_table (codes "1.5x,x,02E197B00179C3," ++ replicate 491 120) ≡ None }
 {}
 
 /// The definition of timestamps that rise.

@@ -350,7 +350,7 @@ fn columns_of(row: &[u8]) -> Option<Columns>
 }
 
 // Returns the column of the time: `time`, else `mintime`, else `timestamp`.
-fn time_column(row: &[u8]) -> Option<usize>
+pub(crate) fn time_column(row: &[u8]) -> Option<usize>
     ensures { result ≡ time_column row.now }
 {
     if let Some(column) = column_of(b"time", row) {

@@ -1,17 +1,18 @@
 //! The signs by which a text shows its format.
-ghost use Rattle.std.specs.Prelude.{◌≡◌, ◌==◌, ◌++◌, ◌<◌, ◌≤◌, [], ◌∷◌, bytes_eq, length, take};
-ghost use Rattle.sq_feed.specs.Finding.{first_shown, is_beast_start, is_known, is_packed, is_sbs, is_tar, is_utf16};
-ghost use Rattle.sq_feed.specs.Finding.{line_sign, marked_sign, other_sign, sign_of_frame, sign_of_line, sign_of_row};
-ghost use Rattle.sq_feed.specs.Finding.{sign_of_word, start_sign};
+ghost use Rattle.std.specs.Prelude.{◌≡◌, ◌==◌, ◌++◌, ◌<◌, ◌≤◌, [], ◌∷◌, bytes_eq, length, option_to_list, take};
+ghost use Rattle.sq_feed.specs.Finding.{first_shown, has_frame, is_beast_start, is_known, is_packed, is_sbs};
+ghost use Rattle.sq_feed.specs.Finding.{is_tar, is_utf16, line_sign, marked_sign, other_sign, sign_of_line, sign_of_row};
+ghost use Rattle.sq_feed.specs.Finding.{sign_of_word, start_sign, text_sign, told_sign};
 ghost use Rattle.sq_feed.specs.Kinds.{kind_of};
-ghost use Rattle.sq_feed.specs.Avr.{frame_of_word};
-ghost use Rattle.sq_feed.specs.Rows.{csv_start, row_read, without_last, without_mark};
+ghost use Rattle.sq_feed.specs.Avr.{avr_found};
+ghost use Rattle.sq_feed.specs.Rows.{csv_start, row_read, without_mark};
 ghost use Rattle.std.specs.Prelude.{if◌then◌else◌, get_or, ◌-◌};
 
-use crate::avr::{frame_of_word, item_of_word, mark_of};
+use crate::avr::{Avr, item_of_word, mark_of};
 use crate::machine::Format;
-use crate::message::{Found, Kind, RawFrame, Stranger, kind_of};
-use crate::rows::{Columns, LONGEST, Layout, Row, row_read, without_last, without_mark};
+use crate::message::{Found, Kind, Stranger, is_mode_s, kind_of};
+use crate::rows::{Columns, LONGEST, Layout, Row, row_read, without_mark};
+use crate::tables::{is_row_of, unread_table};
 
 /// What the first bytes of a source show.
 #[derive(Clone, Copy)]
@@ -66,12 +67,11 @@ pub(crate) fn last_byte_sign(line: &[u8], byte: u8, is_first: bool) -> Sign
 pub(crate) fn line_sign(line: &[u8]) -> Sign
     ensures { result ≡ line_sign line.now }
 {
-    let text = without_mark(line);
     first_shown(
         log_sign(line),
         first_shown(
             table_sign(line),
-            first_shown(bare_sign(text), other_sign(text)),
+            first_shown(text_sign(line), other_sign(without_mark(line))),
         ),
     )
 }
@@ -105,15 +105,40 @@ fn table_sign(line: &[u8]) -> Sign
     }
 }
 
-// Returns the sign of a frame on a line of its own.
-fn bare_sign(line: &[u8]) -> Sign
-    ensures { result ≡ sign_of_frame (frame_of_word (without_last 13 line.now)) }
+// Returns the sign of a line that is read as AVR text.
+fn text_sign(line: &[u8]) -> Sign
+    ensures { result ≡ text_sign line.now }
 {
-    match frame_of_word(without_last(b'\r', line)) {
-        None => Sign::Unclear,
-        Some(RawFrame::ModeAc(_)) => Sign::Unclear,
-        Some(RawFrame::Short(_)) => Sign::Shows(Format::Avr),
-        Some(RawFrame::Long(_)) => Sign::Shows(Format::Avr),
+    if !is_row_of(b';', line) && has_frame(line) {
+        Sign::Shows(Format::Avr)
+    } else {
+        Sign::Unclear
+    }
+}
+
+// Returns whether AVR text has a frame of Mode S.
+fn has_frame(text: &[u8]) -> bool
+    ensures { result ≡ has_frame (avr_found text.now) }
+{
+    let mut avr = Avr::new();
+    for byte in text {
+        if is_framed(avr.take_byte(*byte)) {
+            return true;
+        }
+    }
+    is_framed(avr.finish())
+}
+
+// Returns whether an item is a message with a frame of Mode S.
+fn is_framed(found: Option<Found>) -> bool
+    ensures { result ≡ has_frame (option_to_list found) }
+{
+    match found {
+        None => false,
+        Some(Found::Whole(message)) => is_mode_s(message.frame),
+        Some(Found::Damage) => false,
+        Some(Found::ReceiverId) => false,
+        Some(Found::Foreign(_)) => false,
     }
 }
 
@@ -128,7 +153,7 @@ fn row_of(layout: Layout, line: &[u8]) -> Row
     }
 }
 
-// Returns the sign of a line of another kind of text.
+// Returns the sign of a line of another kind of text, or of a table that is not read.
 fn other_sign(line: &[u8]) -> Sign
     ensures { result ≡ other_sign line.now }
 {
@@ -137,7 +162,16 @@ fn other_sign(line: &[u8]) -> Sign
     } else if starts(line, b"{") {
         Sign::Other(Stranger::Json)
     } else {
-        Sign::Unclear
+        told_sign(unread_table(line))
+    }
+}
+
+fn told_sign(stranger: Option<Stranger>) -> Sign
+    ensures { result ≡ told_sign stranger }
+{
+    match stranger {
+        Some(stranger) => Sign::Other(stranger),
+        None => Sign::Unclear,
     }
 }
 

@@ -1,20 +1,16 @@
-//! The timestamps of frames: by their receiver's clock or by their arrival.
-ghost use Rattle.std.specs.Prelude.{◌≡◌, ◌+◌, ◌*◌, ◌≤◌, ℕ, IfSome, MatchOption, false, true};
-ghost use Rattle.sq_feed.specs.Times.{anew_of, by_arrival, by_clock, by_ticks, clock_leap, clock_moment, due, gone_on};
-ghost use Rattle.sq_feed.specs.Times.{is_clock_told, is_near, is_ticks_told, no_times, other_times, ticks_moment, told_as, waited};
+//! The timestamps of frames: by their own times or by their arrival.
+ghost use Rattle.std.specs.Prelude.{◌≡◌, ◌&&◌, nat_le, true, ◌+◌, ◌%◌, ◌^◌, ◌≤◌};
+ghost use Rattle.sq_feed.specs.Clock.{count_of, counted_at};
+ghost use Rattle.sq_feed.specs.Times.{anew_of, beyond, by_arrival, due, gone_on};
+ghost use Rattle.sq_feed.specs.Times.{is_ahead_of_arrivals, is_awaited, is_clockless, is_near, no_times, other_times};
+ghost use Rattle.sq_feed.specs.Times.{resumed, start_of, told_as};
 
-use crate::clock::Clock;
+use crate::clock::{Clock, RATE, TURN};
 use crate::manner::Manner;
 use std::marker::Model;
 
-// The ticks of a millisecond.
-const RATE: u64 = 12_000;
-
-// A row's time may always be late by this many milliseconds.
+// A time may always be late by this many milliseconds.
 const JITTER: u64 = 1000;
-
-// A day in milliseconds.
-const DAY: u64 = 86_400_000;
 
 /// Gives frames their timestamps (ms). Each is before the latest one by at most `Manner::late`.
 #[derive(Drop)]
@@ -26,7 +22,6 @@ pub struct Times {
     late: u64,
     latest: u64,
     arrival: u64,
-    read_at: u64,
 }
 
 impl Model for Times {
@@ -42,52 +37,51 @@ impl Model for Times {
       late = s.late;
       latest = s.latest;
       arrival = s.arrival;
-      read_at = s.read_at;
     } };
 }
 
 impl Times {
     /// Returns the times of a source before its first frame.
-    pub fn new(manner: &Manner) -> Times
+    pub(crate) fn new(manner: &Manner) -> Times
         ensures { result ≡ no_times manner.now }
     {
         Times {
-            clock: Clock::new(
-                clock_leap(manner).saturating_mul(RATE),
-                manner.leap.saturating_mul(RATE),
-                manner.late.saturating_mul(RATE),
-            ),
+            clock: Clock::new(),
             is_live: manner.is_live,
             ignores_clock: manner.ignores_clock,
             leap: manner.leap,
             late: manner.late,
             latest: 0,
             arrival: 0,
-            read_at: 0,
         }
     }
 
-    /// Takes a value of the receiver's clock, and the frame's arrival (ms). Returns the frame's timestamp, or `None` if
-    /// the value is set aside.
+    /// Returns whether a time is at or after the latest timestamp, by at most a leap.
     #[inline(always)]
-    pub fn hear_ticks(&mut self, ticks: u64, arrival: u64) -> Option<u64>
-        ensures kept { self.new ≡ by_ticks self.old ticks arrival }
-        ensures told { MatchOption result (is_ticks_told self.old ticks arrival ≡ false)
-            (λ moment. (is_ticks_told self.old ticks arrival ≡ true)
-            × (moment ≡ told_as self.old (ticks_moment self.old ticks arrival))) }
-        ensures near { IfSome result (λ moment. (moment ≤ self.new.latest)
-            × (self.new.latest ≤ moment + self.old.late)) }
-        ensures goes_on { self.old.latest ≤ self.new.latest }
+    pub(crate) fn follows(&self, moment: u64) -> bool
+        ensures { result ≡ nat_le self.now.latest moment && nat_le moment (self.now.latest + self.now.leap) }
     {
-        if ticks == 0 || self.ignores_clock {
-            Some(self.hear_arrival(arrival))
-        } else {
-            self.hear_clock(ticks, arrival)
-        }
+        self.latest <= moment && moment - self.latest <= self.leap
+    }
+
+    /// Takes the time (ms) of a frame that is at or after the latest timestamp. Its clock, which has started, counts on
+    /// from its value with this count (ticks).
+    #[inline(always)]
+    pub(crate) fn advance(&mut self, ticks: u64, count: u64, moment: u64, arrival: u64)
+        requires { self.old.clock.is_heard ≡ true }
+        ensures { self.new ≡ record self.old {
+          clock = counted_at (ticks % 2 ^ 48) count;
+          latest = moment;
+          arrival = arrival;
+        } }
+    {
+        self.clock.advance(ticks, count);
+        self.latest = moment;
+        self.arrival = arrival;
     }
 
     /// Starts the receiver's clock anew, after a lost connection.
-    pub fn restart(&mut self)
+    pub(crate) fn restart(&mut self)
         ensures { self.new ≡ other_times self.old }
     {
         self.clock.restart();
@@ -95,35 +89,55 @@ impl Times {
 
     /// Takes the arrival (ms) of a frame without a time, and returns its timestamp. In a live source, it is as much
     /// after the latest frame as their arrivals are apart. In a recorded source it is the latest timestamp, or 0.
-    pub fn hear_arrival(&mut self, arrival: u64) -> u64
+    pub(crate) fn hear_arrival(&mut self, arrival: u64) -> u64
         ensures kept { self.new ≡ by_arrival self.old arrival }
         ensures told { result ≡ told_as self.old (due self.old arrival) }
-        ensures near { (result ≤ self.new.latest) × (self.new.latest ≤ result + self.old.late) }
-        ensures goes_on { self.old.latest ≤ self.new.latest }
     {
         let moment = self.due(arrival);
         self.go_on(moment, arrival)
     }
 
-    // Takes a value of the receiver's clock.
+    /// Returns whether a value of the receiver's clock counts as none.
     #[inline(always)]
-    fn hear_clock(&mut self, ticks: u64, arrival: u64) -> Option<u64>
-        ensures kept { self.new ≡ by_clock self.old ticks arrival }
-        ensures told { MatchOption result (is_clock_told self.old ticks arrival ≡ false)
-            (λ moment. (is_clock_told self.old ticks arrival ≡ true)
-            × (moment ≡ told_as self.old (clock_moment self.old ticks arrival))) }
-        ensures near { IfSome result (λ moment. (moment ≤ self.new.latest)
-            × (self.new.latest ≤ moment + self.old.late)) }
-        ensures goes_on { self.old.latest ≤ self.new.latest }
+    pub(crate) fn is_clockless(&self, ticks: u64) -> bool
+        ensures { result ≡ is_clockless self.now ticks }
     {
-        let waited = self.waited(arrival);
-        let anew = self.anew(arrival);
-        match self.clock.hear(ticks, waited, anew) {
-            None => None,
-            Some(moment) => {
-                self.read_at = arrival;
-                Some(self.go_on(moment, arrival))
-            }
+        ticks == 0 || self.ignores_clock
+    }
+
+    /// Returns whether the receiver's clock has started.
+    #[inline(always)]
+    pub(crate) fn has_clock(&self) -> bool
+        ensures { result ≡ self.now.clock.is_heard }
+    {
+        self.clock.is_heard()
+    }
+
+    /// Returns the count (ticks) of a value of the receiver's clock, once that has started.
+    #[inline(always)]
+    pub(crate) fn count(&self, ticks: u64) -> u64
+        ensures { result ≡ count_of self.now.clock (ticks % 2 ^ 48) }
+    {
+        self.clock.count(ticks)
+    }
+
+    /// Counts on from a value of the receiver's clock with this count (ticks).
+    #[inline(always)]
+    pub(crate) fn follow(&mut self, ticks: u64, count: u64)
+        ensures { self.new ≡ record self.old { clock = counted_at (ticks % 2 ^ 48) count } }
+    {
+        self.clock.go_on(ticks, count);
+    }
+
+    /// Returns the count (ticks) at which the receiver's clock starts with this value: in a recorded source the first
+    /// value itself.
+    pub(crate) fn start(&self, ticks: u64, arrival: u64) -> u64
+        ensures { result ≡ start_of self.now (ticks % 2 ^ 48) arrival }
+    {
+        if !self.is_live && self.latest == 0 {
+            ticks % TURN
+        } else {
+            self.resumed(arrival).saturating_mul(RATE)
         }
     }
 
@@ -137,6 +151,51 @@ impl Times {
         } else {
             base - moment <= self.late.max(JITTER)
         }
+    }
+
+    /// Returns whether a time is at or after the latest timestamp by as much as the arrivals of a live source are
+    /// apart, within a leap.
+    pub(crate) fn is_awaited(&self, arrival: u64, moment: u64) -> bool
+        ensures { result ≡ is_awaited self.now arrival moment }
+    {
+        let due = self.due(arrival);
+        self.is_live && self.latest <= moment && moment.abs_diff(due) <= self.leap
+    }
+
+    /// Returns the timestamp (ms) at which times start again that went back.
+    pub(crate) fn anew(&self, arrival: u64) -> u64
+        ensures { result ≡ anew_of self.now arrival }
+    {
+        if self.clock.is_heard() {
+            self.resumed(arrival)
+        } else {
+            self.beyond()
+        }
+    }
+
+    // Returns the timestamp (ms) at which a clock goes on that has started again.
+    fn resumed(&self, arrival: u64) -> u64
+        ensures { result ≡ resumed self.now arrival }
+    {
+        if self.is_live && !self.is_ahead_of_arrivals() {
+            self.due(arrival)
+        } else {
+            self.beyond()
+        }
+    }
+
+    // Returns a timestamp (ms) that is more than a leap after the latest one.
+    fn beyond(&self) -> u64
+        ensures { result ≡ beyond self.now }
+    {
+        self.latest.saturating_add(self.leap).saturating_add(1)
+    }
+
+    /// Returns whether the timestamps of a live source are ahead of its arrivals by more than a leap.
+    pub(crate) fn is_ahead_of_arrivals(&self) -> bool
+        ensures { result ≡ is_ahead_of_arrivals self.now }
+    {
+        self.is_live && self.latest.saturating_sub(self.arrival) > self.leap
     }
 
     /// Returns the latest timestamp (ms).
@@ -154,21 +213,12 @@ impl Times {
         self.arrival
     }
 
-    /// Returns the longest gap (ms) that is no jump.
-    pub(crate) fn leap(&self) -> u64
-        ensures { result ≡ self.now.leap }
-    {
-        self.leap
-    }
-
     /// Takes the time (ms) of a frame, and returns its timestamp. A time that is before the latest timestamp by more
     /// than `late` is moved to `late` before it.
     #[inline(always)]
-    pub fn go_on(&mut self, moment: u64, arrival: u64) -> u64
+    pub(crate) fn go_on(&mut self, moment: u64, arrival: u64) -> u64
         ensures kept { self.new ≡ gone_on self.old moment arrival }
         ensures told { result ≡ told_as self.old moment }
-        ensures near { (result ≤ self.new.latest) × (self.new.latest ≤ result + self.old.late) }
-        ensures goes_on { self.old.latest ≤ self.new.latest }
     {
         if self.latest <= moment {
             self.latest = moment;
@@ -189,41 +239,5 @@ impl Times {
         } else {
             self.latest
         }
-    }
-
-    // Returns the milliseconds since the clock was read, by the arrivals of a live source, otherwise 0.
-    #[inline(always)]
-    fn waited(&self, arrival: u64) -> u64
-        ensures { result ≡ waited self.now arrival }
-    {
-        if self.is_live {
-            arrival.saturating_sub(self.read_at)
-        } else {
-            0
-        }
-    }
-
-    // Returns the timestamp with which a clock starts anew, if the source is live.
-    #[inline(always)]
-    fn anew(&self, arrival: u64) -> Option<u64>
-        ensures { result ≡ anew_of self.now arrival }
-    {
-        if self.is_live {
-            Some(self.due(arrival))
-        } else {
-            None
-        }
-    }
-}
-
-// Returns the longest gap (ms) of a receiver's clock that is no jump. In a recorded source, receivers are silent for
-// hours, and no arrival says so.
-fn clock_leap(manner: &Manner) -> u64
-    ensures { result ≡ clock_leap manner.now }
-{
-    if manner.is_live {
-        manner.leap
-    } else {
-        manner.leap.max(DAY)
     }
 }
