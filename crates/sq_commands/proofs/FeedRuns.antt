@@ -1,7 +1,7 @@
 -- A run of `feed` on its way, and how it ends.
-use Rattle.std.proofs.Common.{◌≡◌, ◌≢◌, ◌+◌, ◌<◌, ◌≤◌, ◌++◌, ◌∙◌, ℕ, List, [], ◌∷◌, None, Option, Result, Ok, Err, IfOk, length, take, drop, refl, sym}
+use Rattle.std.proofs.Common.{◌≡◌, ◌≢◌, ◌+◌, ◌%◌, ◌<◌, ◌≤◌, ◌++◌, ◌∙◌, ℕ, List, [], ◌∷◌, None, Option, Result, Ok, Err, IfOk, length, take, drop, refl, sym}
 use Rattle.std.proofs.Common.{Some, ap, ap₂, append_assoc, arith, inl, inr, subst, take-append-drop, true}
-use Rattle.std.specs.Prelude.{Bool, IfErr}
+use Rattle.std.specs.Prelude.{Bool, IfErr, false, if◌then◌else◌}
 use Rattle.sq_feed.specs.declared.message.Found.{Found}
 use Rattle.sq_feed.specs.declared.counts.Fate.{Fate}
 use Rattle.sq_feed.specs.declared.message.Found.TheVariants.{Damage, Foreign, Whole, ReceiverId}
@@ -26,6 +26,9 @@ use Rattle.sq_devices.proofs.Puts.{HasPut-nil, HasPut-trans}
 use Rattle.sq_commands.specs.declared.feed.FeedEnd.{FeedEnd}
 use Rattle.sq_commands.specs.declared.feed.FeedOptions.{FeedOptions}
 use Rattle.sq_feed.specs.Ears.{Hears, ear_after, ear_after_all, ear_at, ear_by, fate_of, told_of_all, whole_of}
+use Rattle.sq_feed.specs.Clock.{turn}
+use Rattle.sq_feed.specs.Ears.{clock_judged, ear_arrived, ear_clocked}
+use Rattle.sq_feed.specs.Times.{is_clockless}
 use Rattle.sq_feed.specs.Feeds.{AreFed, Fed, Feeding, HasFed, bytes_in, last_fed, lines_of, told_at_end}
 use Rattle.sq_feed.specs.Orders.{Sorting}
 use Rattle.sq_feed.specs.Readers.{awaited}
@@ -50,10 +53,18 @@ by_result (Ok x) P Q G good bad p q = good x p
 by_result (Err e) P Q G good bad p q = bad e q
 
 -- what a source is stays known
+stays_if : (b : Bool) (x y : Hears) → x.stranger ≢ None → y.stranger ≢ None
+    → (if b then x else y).stranger ≢ None
+stays_if true x y p q = p
+stays_if false x y p q = q
+
 stays_at : (time : Time) (arrival : ℕ) (ear : Hears) (frame : List ℕ) → ear.stranger ≢ None
     → (ear_at time arrival ear frame).stranger ≢ None
 stays_at Unknown arrival ear frame known = known
-stays_at (Ticks ticks) arrival ear frame known = known
+stays_at (Ticks ticks) arrival ear frame known =
+    let shown = ticks % turn in
+    stays_if (is_clockless ear.times ticks) (ear_arrived arrival ear)
+    (ear_clocked ear shown arrival (clock_judged ear shown arrival frame)) known known
 stays_at (Millis moment) arrival ear frame known = known
 
 stays_by : (fate : Option Fate) (arrival : ℕ) (ear : Hears) (message : Message) → ear.stranger ≢ None

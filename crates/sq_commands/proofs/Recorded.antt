@@ -23,7 +23,7 @@ use Rattle.sq_commands.specs.Feed.{end_after, end_by, watched_in}
 use Rattle.sq_commands.specs.Feed.{lines_given, lines_in, lines_whole, manner_of, squitters_in, start_of}
 use Rattle.sq_commands.specs.Outputs.{Effects}
 use Rattle.sq_commands.specs.Runs.{IsRun, IsTimedRun}
-use Rattle.sq_commands.proofs.Arrivals.{AreAlike, all_ears_alike, all_told_alike, ended_alike, quiet}
+use Rattle.sq_commands.proofs.Arrivals.{AreAlike, ahead_quiet, all_ears_alike, all_told_alike, ended_alike, other_unlive, quiet}
 
 abbrev IsZero : ℕ → Type 0
 IsZero moment = moment ≡ 0
@@ -41,6 +41,17 @@ record Untimed (before other : Feeding) (calls : List Fed) : Type 0 where
   zero : All IsZero (arrivals_in others)
   squitters : squitters_in before calls ≡ squitters_in other others
   near : AreNear (last_fed before calls) (last_fed other others)
+
+-- the end of a recording, whatever arrivals its state keeps
+end_quiet : (seen : Watched) (ear : Hears) → ear.times.is_live ≡ false
+    → end_by false seen ear ≡ end_by false seen (quiet ear)
+end_quiet seen ear unlive =
+    ap (λ (b : Bool). record (end_by false seen ear) { is_ahead = b }) (ahead_quiet ear.times unlive)
+
+ends_alike : (seen : Watched) (k l : Hears) → AreAlike k l → end_by false seen k ≡ end_by false seen l
+ends_alike seen k l alike =
+    end_quiet seen k alike.unlive ∙ ap (end_by false seen) alike.same
+    ∙ sym (end_quiet seen l (other_unlive k l alike))
 
 untimed : (calls : List Fed) (before other : Feeding) → AreFed before calls → AreNear before other
     → Untimed before other calls
@@ -138,7 +149,9 @@ module _ (clock : Times) (recorded_is : clock.is_live ≡ false) (options : Feed
       recorded_is seen
       ∙ ap (λ (m : Reads). end_by false (watched_all (watched_in to u.others) (told_at_end 0 end'))
       (ear_ended (ear_after_all arrival end.ear (left m)))) u.near.reader
-      ∙ ap (end_by false (watched_all (watched_in to u.others) (told_at_end 0 end'))) ends.1 in (
+      ∙ ends_alike (watched_all (watched_in to u.others) (told_at_end 0 end'))
+      (ear_ended (ear_after_all arrival end.ear (left end'.reader)))
+      (ear_ended (ear_after_all 0 end'.ear (left end'.reader))) ends.1 in (
         u.others,
         0,
         u.fed,

@@ -12,9 +12,9 @@ use Rattle.sq_feed.specs.Counts.{Tally}
 use Rattle.sq_feed.specs.Ears.{Hears, told_of_all}
 use Rattle.sq_feed.specs.Feeds.{AreFed, Fed, Feeding, HasTold, bytes_in, ear_at_end, last_fed, lines_of, nothing_fed}
 use Rattle.sq_feed.specs.Feeds.{told_at_end}
+use Rattle.sq_feed.specs.Times.{is_ahead_of_arrivals}
 use Rattle.sq_feed.specs.Orders.{Sorting, given_all, is_due, nothing_sorted, sorted, sorted_all}
 use Rattle.sq_feed.specs.declared.message.Timed.{Timed}
-use Rattle.sq_feed.specs.Dates.{is_dated}
 use Rattle.sq_feed.specs.Units.{Watched, nothing_watched, unit_of, watched_all}
 use Rattle.sq_feed.specs.declared.machine.Format.{Format}
 use Rattle.sq_feed.specs.declared.machine.Format.TheVariants.{Beast, Avr, Csv, Log}
@@ -104,13 +104,16 @@ abbrev pub all_lines : FeedOptions → Feeding → List Fed → (arrival : ℕ) 
 all_lines options before calls arrival = lines_whole options.reorder (all_squitters before calls arrival)
 
 -- the end of a source: the counts of its items, with the last ones; what it is if it has no known format; whether rows
--- had times of their own; and what the timestamps of its squitters seem to be, if they are not milliseconds
+-- stated their times; what the timestamps of its squitters seem to be, if they are not milliseconds; how often times
+-- went back; and whether the timestamps of a live source are ahead of its arrivals
 abbrev pub end_by : (is_live : Bool) → Watched → Hears → FeedEnd
 end_by is_live seen ear = record {
   counts = ear.counts;
   stranger = ear.stranger;
-  is_dated = is_dated ear.dates;
-  unit = unit_of (not (is_dated ear.dates)) is_live seen;
+  is_dated = ear.is_dated;
+  unit = unit_of (not ear.is_dated) is_live seen;
+  breaks = ear.dates.breaks;
+  is_ahead = is_ahead_of_arrivals ear.times;
 }
 
 abbrev pub end_of : (is_live : Bool) → ℕ → Watched → Feeding → FeedEnd

@@ -62,11 +62,27 @@ abbrev pub has_several_clocks : FeedEnd → Bool
 has_several_clocks end =
     not end.is_dated && nat_lt 4 end.counts.aside && nat_lt (end.counts.written / 20) end.counts.aside
 
--- what to do if all items are damaged, or if many times were set aside
+-- what to do if many times were set aside
+unfoldable pub clocks_advice : FeedEnd → List ℕ
+clocks_advice end =
+    if has_several_clocks end then codes "; try --arrival: the source seems to have several clocks" else []
+
+-- what to do if the timestamps of a live source are ahead of its arrivals
+unfoldable pub ahead_advice : Bool → List ℕ
+ahead_advice true = codes "; the clock runs ahead of the arrivals: try --arrival, or read a recording from its file"
+ahead_advice false = []
+
+-- what to do if times went back
+unfoldable pub back_advice : ℕ → List ℕ
+back_advice breaks =
+    if breaks == 0 then []
+    else codes "; timestamps behind a jump back are moved on: try --leap and --reorder to sort them"
+
+-- what to do if all items are damaged, or if times are doubted
 abbrev pub advice : FeedEnd → List ℕ
 advice end =
     if are_all_damaged end.counts then codes ": try without --format; the times of a table are seconds"
-    else (if has_several_clocks end then codes "; try --arrival: the source seems to have several clocks" else [])
+    else clocks_advice end ++ ahead_advice end.is_ahead ++ back_advice end.breaks
 
 -- what the timestamps seem to be, and what they have to be
 abbrev pub unit_text : Unit → List ℕ
@@ -85,9 +101,10 @@ abbrev pub unit_line : Option Unit → List ℕ
 unit_line None = []
 unit_line (Some unit) = unit_text unit ++ codes "\n"
 
--- the summary: a line on the unit, the counts, and what to do
+-- the summary: a line on the unit, the counts, how often times went back, and what to do
 abbrev pub summary_text : FeedEnd → List ℕ
-summary_text end = unit_line end.unit ++ counts_text end.counts ++ advice end
+summary_text end =
+    unit_line end.unit ++ counts_text end.counts ++ part end.breaks (codes " jumps back") ++ advice end
 
 -- the end of a source of which so many items were written, and so many set aside
 abbrev pub summed : (written aside : ℕ) → (is_dated : Bool) → FeedEnd
@@ -96,6 +113,8 @@ summed written aside is_dated = record {
   stranger = None;
   is_dated = is_dated;
   unit = None;
+  breaks = 0;
+  is_ahead = false;
 }
 
 -- what a source without frames is, and what to do
@@ -105,5 +124,17 @@ stranger_text strangers.Tar = codes "the input is a tar archive: try tar -xOf FI
 stranger_text strangers.Packed = codes "the input is compressed: try gzip -dc FILE | squitter feed"
 stranger_text strangers.Utf16 = codes "the input is UTF-16: try iconv -f UTF-16 -t UTF-8 FILE | squitter feed"
 stranger_text strangers.Json = codes "the input is lines of JSON, which have no frames"
+stranger_text strangers.Semicolons =
+    codes "the table has semicolons between its columns: they have to be commas, and its decimal commas points"
+stranger_text strangers.Tabs =
+    codes "the table has tabs between its columns: they have to be commas"
+stranger_text strangers.NoTime =
+    codes "the table has no column time (seconds): name its columns time, icao24 and rawmsg in the first row"
+stranger_text strangers.NoRawmsg =
+    codes "the table has no column rawmsg, so it has no frames: take one that has them"
+stranger_text strangers.NoSeconds =
+    codes "the first column of the table has no times in seconds, as 1700000000.25: milliseconds and dates are not read"
+stranger_text strangers.NoNames =
+    codes "the third column of the table has no frames: name its columns time (seconds), icao24 and rawmsg in the first row"
 stranger_text strangers.NoFrame =
     codes "no frame is in the first 16384 bytes: try --format=beast, avr, csv or log; a table has the columns time (seconds), icao24 and rawmsg"

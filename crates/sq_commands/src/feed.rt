@@ -40,14 +40,17 @@ pub struct FeedOptions {
     pub all_formats: bool,
 }
 
-/// The end of a source: the counts of its items, what it is if it has no known format, whether rows had times of their
-/// own, and what its timestamps seem to be, if they are not milliseconds.
+/// The end of a source: the counts of its items, what it is if it has no known format, whether rows stated their times,
+/// what its timestamps seem to be, if they are not milliseconds, how often its times went back, and whether its
+/// timestamps are ahead of its arrivals.
 #[derive(Clone, Copy)]
 pub struct FeedEnd {
     pub counts: Counts,
     pub stranger: Option<Stranger>,
     pub is_dated: bool,
     pub unit: Option<Unit>,
+    pub breaks: u64,
+    pub is_ahead: bool,
 }
 
 /// Writes the log that `track` reads: a line for each extended squitter in the source, with its time. The lines of a

@@ -137,6 +137,8 @@ fn end_now(feed: &Feed, units: &Units, is_live: bool) -> FeedEnd
         stranger: feed.stranger(),
         is_dated,
         unit: units.unit(!is_dated, is_live),
+        breaks: feed.breaks(),
+        is_ahead: feed.is_ahead_of_arrivals(),
     }
 }
 

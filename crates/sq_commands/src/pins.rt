@@ -45,8 +45,8 @@ ghost use Rattle.sq_commands.specs.Replies.{IsDelivered, IsReported, ReplyParts,
 ghost use Rattle.sq_commands.specs.Runs.{IsStreamed};
 ghost use Rattle.sq_commands.specs.Squitters.{check_columns, squitter_telling};
 ghost use Rattle.sq_commands.specs.SlowAnswers.{AreTrueAfter, AreTrueAnswers, heard_in, received_in};
-ghost use Rattle.sq_commands.specs.Summary.{advice, are_all_damaged, counts_text, stranger_text, summary_text, summed};
-ghost use Rattle.sq_commands.specs.Summary.{unit_line};
+ghost use Rattle.sq_commands.specs.Summary.{advice, are_all_damaged, counts_text, part, stranger_text, summary_text};
+ghost use Rattle.sq_commands.specs.Summary.{summed, unit_line};
 ghost use Rattle.sq_commands.specs.declared.feed.FeedEnd.{FeedEnd};
 ghost use Rattle.sq_feed.specs.declared.message.Stranger.{Stranger};
 ghost use Rattle.sq_commands.specs.Holding.{AreHeardLinesBy, OneListOfAnswers, SomeHolding};
@@ -296,10 +296,16 @@ pub fn true_exactly()
         × (heard_in (one ∷ two ∷ three ∷ []) ≡ Ok first.heard ∷ Ok last.heard ∷ [])) }
 {}
 
-/// The summary is a line on the unit, the counts, and what to do. Times that were set aside show several clocks only
-/// where a clock told them, and where they are more than four, and more than one for 20 that were written.
+/// The summary is a line on the unit, the counts, how often times went back, and what to do. Times that were set aside
+/// show several clocks only where a clock told them, and where they are more than four, and more than one for 20 that
+/// were written.
 pub fn summary_exactly()
-    ensures whole { (end : FeedEnd) → summary_text end ≡ unit_line end.unit ++ counts_text end.counts ++ advice end }
+    ensures whole { (end : FeedEnd) → summary_text end
+        ≡ unit_line end.unit ++ counts_text end.counts ++ part end.breaks (codes " jumps back") ++ advice end }
+    ensures back { advice (record (summed 9 0 true) { breaks = 2 })
+        ≡ codes "; timestamps behind a jump back are moved on: try --leap and --reorder to sort them" }
+    ensures ahead { advice (record (summed 9 0 false) { is_ahead = true })
+        ≡ codes "; the clock runs ahead of the arrivals: try --arrival, or read a recording from its file" }
     ensures unit { unit_line (Some Unit.Seconds)
         ≡ codes "the timestamps of this log seem to be seconds; they have to be milliseconds\n" }
     ensures none { unit_line None ≡ [] }

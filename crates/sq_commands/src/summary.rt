@@ -2,7 +2,8 @@
 ghost use Rattle.std.specs.Prelude.{◌≡◌, ◌+◌, ◌≤◌, ◌++◌, ℕ, List, codes, length, sum};
 ghost use Rattle.sq_digits.specs.Buffer.{text_len};
 ghost use Rattle.sq_commands.specs.Summary.{advice, are_all_damaged, comma_of, counts_text, format_text, format_texts, joined, other_formats};
-ghost use Rattle.sq_commands.specs.Summary.{has_several_clocks, part, rest_of, stranger_text, summary_text, unit_line};
+ghost use Rattle.sq_commands.specs.Summary.{ahead_advice, back_advice, clocks_advice, has_several_clocks, part, rest_of};
+ghost use Rattle.sq_commands.specs.Summary.{stranger_text, summary_text, unit_line};
 ghost use Rattle.sq_commands.specs.Summary.{unit_text};
 
 use crate::feed::FeedEnd;
@@ -13,13 +14,21 @@ use sq_feed::{Counts, Stranger, Unit};
 const FORMATS: usize = 25;
 
 // The summary of a feed has fewer bytes.
-pub(crate) type SummaryText = TextBuffer<2304>;
+pub(crate) type SummaryText = TextBuffer<2560>;
 
 // What to do if all items are damaged.
 const ADVICE: &str = ": try without --format; the times of a table are seconds";
 
 // What to do if many times were set aside.
 const SEVERAL: &str = "; try --arrival: the source seems to have several clocks";
+
+// What to do if the timestamps of a live source are ahead of its arrivals.
+const AHEAD: &str =
+    "; the clock runs ahead of the arrivals: try --arrival, or read a recording from its file";
+
+// What to do if times went back.
+const BACK: &str =
+    "; timestamps behind a jump back are moved on: try --leap and --reorder to sort them";
 
 // So few times set aside, or one for so many written, show no second clock in a source.
 const FEW: u64 = 4;
@@ -30,11 +39,12 @@ const MANY: u64 = 20;
 // what to do.
 pub(crate) fn summary(end: &FeedEnd) -> SummaryText
     ensures bytes { result.bytes ≡ summary_text end.now }
-    ensures len { text_len result ≤ 2200 }
+    ensures len { text_len result ≤ 2500 }
 {
     let mut text = SummaryText::new();
     push_unit(&mut text, end.unit);
     push_counts(&mut text, &end.counts);
+    push_part(&mut text, end.breaks, " jumps back");
     push_advice(&mut text, end);
     text
 }
@@ -85,16 +95,54 @@ fn has_several_clocks(end: &FeedEnd) -> bool
     !end.is_dated && aside > FEW && aside > end.counts.written() / MANY
 }
 
-// Appends what to do if all items are damaged, or if many times were set aside.
+// Appends what to do if all items are damaged, or if times were doubted.
 fn push_advice(text: &mut SummaryText, end: &FeedEnd)
-    requires { text_len text.old ≤ 2100 }
+    requires { text_len text.old ≤ 2140 }
     ensures bytes { text.new.bytes ≡ text.old.bytes ++ advice end.now }
-    ensures len { text_len text.new ≤ text_len text.old + 60 }
+    ensures len { text_len text.new ≤ text_len text.old + 300 }
 {
     if are_all_damaged(&end.counts) {
         text.push_str(ADVICE);
-    } else if has_several_clocks(end) {
+        return;
+    }
+    push_clocks(text, end);
+    push_ahead(text, end.is_ahead);
+    push_back(text, end.breaks);
+}
+
+// Appends what to do if many times were set aside.
+#[tactic(auto, unfolding(crate::specs::Summary::clocks_advice))]
+fn push_clocks(text: &mut SummaryText, end: &FeedEnd)
+    requires { text_len text.old ≤ 2140 }
+    ensures bytes { text.new.bytes ≡ text.old.bytes ++ clocks_advice end.now }
+    ensures len { text_len text.new ≤ text_len text.old + 100 }
+{
+    if has_several_clocks(end) {
         text.push_str(SEVERAL);
+    }
+}
+
+// Appends what to do if the timestamps of a live source are ahead of its arrivals.
+#[tactic(auto, unfolding(crate::specs::Summary::ahead_advice))]
+fn push_ahead(text: &mut SummaryText, is_ahead: bool)
+    requires { text_len text.old ≤ 2240 }
+    ensures bytes { text.new.bytes ≡ text.old.bytes ++ ahead_advice is_ahead }
+    ensures len { text_len text.new ≤ text_len text.old + 100 }
+{
+    if is_ahead {
+        text.push_str(AHEAD);
+    }
+}
+
+// Appends what to do if times went back.
+#[tactic(auto, unfolding(crate::specs::Summary::back_advice))]
+fn push_back(text: &mut SummaryText, breaks: u64)
+    requires { text_len text.old ≤ 2340 }
+    ensures bytes { text.new.bytes ≡ text.old.bytes ++ back_advice breaks }
+    ensures len { text_len text.new ≤ text_len text.old + 100 }
+{
+    if breaks != 0 {
+        text.push_str(BACK);
     }
 }
 
@@ -116,7 +164,7 @@ fn push_counts(text: &mut SummaryText, counts: &Counts)
 
 // Appends a count and its name, if the count is not 0.
 fn push_part(text: &mut SummaryText, count: u64, name: &str)
-    requires { text_len text.old + 22 + length name.now ≤ 2304 }
+    requires { text_len text.old + 22 + length name.now ≤ 2560 }
     ensures bytes { text.new.bytes ≡ text.old.bytes ++ part count name.now }
     ensures len { text_len text.new ≤ text_len text.old + 22 + length name.now }
 {
@@ -162,7 +210,7 @@ fn push_formats(text: &mut SummaryText, formats: &[u64; 25])
 // Appends a downlink format, if it has frames. Returns whether no format was appended so far.
 fn push_format(text: &mut SummaryText, is_first: bool, format: usize, count: u64) -> bool
     requires small { format ≤ 24 }
-    requires room { text_len text.old + 45 ≤ 2304 }
+    requires room { text_len text.old + 45 ≤ 2560 }
     ensures bytes { (more : List (List ℕ)) → text.new.bytes ++ rest_of result more
         ≡ text.old.bytes ++ rest_of is_first (format_text format count ++ more) }
     ensures len { text_len text.new ≤ text_len text.old + 45 }
@@ -180,7 +228,7 @@ fn push_format(text: &mut SummaryText, is_first: bool, format: usize, count: u64
 
 // Appends the comma before a text, unless it is the first.
 fn push_comma(text: &mut SummaryText, is_first: bool)
-    requires { text_len text.old + 2 ≤ 2304 }
+    requires { text_len text.old + 2 ≤ 2560 }
     ensures bytes { text.new.bytes ≡ text.old.bytes ++ comma_of is_first }
     ensures len { text_len text.new ≤ text_len text.old + 2 }
 {
@@ -209,6 +257,17 @@ pub(crate) fn stranger_text(stranger: Stranger) -> &'static str
         Stranger::Packed => "the input is compressed: try gzip -dc FILE | squitter feed",
         Stranger::Utf16 => "the input is UTF-16: try iconv -f UTF-16 -t UTF-8 FILE | squitter feed",
         Stranger::Json => "the input is lines of JSON, which have no frames",
+        Stranger::Semicolons =>
+            "the table has semicolons between its columns: they have to be commas, and its decimal commas points",
+        Stranger::Tabs => "the table has tabs between its columns: they have to be commas",
+        Stranger::NoTime =>
+            "the table has no column time (seconds): name its columns time, icao24 and rawmsg in the first row",
+        Stranger::NoRawmsg =>
+            "the table has no column rawmsg, so it has no frames: take one that has them",
+        Stranger::NoSeconds =>
+            "the first column of the table has no times in seconds, as 1700000000.25: milliseconds and dates are not read",
+        Stranger::NoNames =>
+            "the third column of the table has no frames: name its columns time (seconds), icao24 and rawmsg in the first row",
         Stranger::NoFrame =>
             "no frame is in the first 16384 bytes: try --format=beast, avr, csv or log; a table has the columns time (seconds), icao24 and rawmsg",
     }

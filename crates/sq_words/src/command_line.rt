@@ -374,6 +374,7 @@ the status is 1 if all of the input is damaged:
   N receiver ids               ids that readsb sends before its messages
   N set aside                  frames with a time that jumps
   N damaged                    bytes that are no message, or messages of a wrong length
+  N jumps back                 how often times went back, so that timestamps are moved on
 If the output is closed, as 'head' does, 'write failed' is reported and the status is 3.
 
 Examples:
@@ -461,8 +462,8 @@ const SOURCE: &str = "The input format: auto, beast, avr, csv, or log [default: 
 const REORDER: &str = "Sort the lines by time, where frames come up to MS milliseconds late
 [default: 0, as they come]";
 
-const LEAP: &str = "Set frames aside after a jump of the clock by more than MS milliseconds,
-until three in a row agree [default: 600000]";
+const LEAP: &str = "A time that goes ahead by more than MS milliseconds is a jump: such frames
+wait until others confirm them [default: 600000]";
 
 const ARRIVAL: &str =
     "Ignore the receiver's clock: frames get the times of their arrival. For a server

@@ -1,11 +1,12 @@
 -- Calls of a feed.
-use Rattle.std.specs.Prelude.{◌≡◌, ◌==◌, ◌≤◌, ◌<◌, ◌+◌, ◌/◌, ◌%◌, ◌⊎◌, ℕ, Bool, true, List, [], ◌∷◌, Option, None, Some, drop, length, take}
+use Rattle.std.specs.Prelude.{◌≡◌, ◌==◌, ◌≤◌, ◌<◌, ◌+◌, ◌/◌, ◌%◌, ◌⊎◌, ℕ, Bool, true, List, [], ◌∷◌, Option, None, Some, drop, if◌then◌else◌, length, take}
 use Rattle.sq_feed.specs.declared.machine.Format.{Format}
 use Rattle.sq_feed.specs.declared.machine.Format.TheVariants as formats
 use Rattle.sq_feed.specs.declared.manner.Manner.{Manner}
-use Rattle.sq_feed.specs.Counts.{Tally}
+use Rattle.sq_feed.specs.Ears.{Hears}
 use Rattle.sq_feed.specs.Feeds.{Feeding, HasClosedFeed, HasLost, HasTold, HasToldLast, format_of_source, lines_of}
 use Rattle.sq_feed.specs.Feeds.{nothing_fed, steps_left}
+use Rattle.sq_feed.specs.Times.{is_ahead_of_arrivals}
 use Rattle.sq_feed.specs.declared.message.Stranger.{Stranger}
 use Rattle.sq_feed.specs.declared.message.Timed.{Timed}
 use Rattle.sq_feed.specs.declared.message.Stranger.TheVariants as strangers
@@ -160,20 +161,22 @@ abbrev pub IsFeedLost : (old new : Option KeptFeed) → Fault → Type 0
 IsFeedLost (Some k) new fault = (next : KeptFeed) × (new ≡ Some next) × HasLost k next × (fault ≡ none)
 IsFeedLost None new fault = (new ≡ None) × (fault ≡ fault_of reasons.NoTracker)
 
--- counts as plain numbers
-pub record AreCounts (tally : Tally) (plain : PlainCounts) : Type 0 where
-  pub found : plain.found ≡ tally.found
-  pub written : plain.written ≡ tally.written
-  pub mode_ac : plain.mode_ac ≡ tally.mode_ac
-  pub multilaterated : plain.multilaterated ≡ tally.multilaterated
-  pub receiver_ids : plain.receiver_ids ≡ tally.receiver_ids
-  pub damaged : plain.damaged ≡ tally.damaged
-  pub aside : plain.aside ≡ tally.aside
-  pub formats : plain.formats ≡ tally.formats
+-- the counts of a feed as plain numbers
+pub record AreCounts (ear : Hears) (plain : PlainCounts) : Type 0 where
+  pub found : plain.found ≡ ear.counts.found
+  pub written : plain.written ≡ ear.counts.written
+  pub mode_ac : plain.mode_ac ≡ ear.counts.mode_ac
+  pub multilaterated : plain.multilaterated ≡ ear.counts.multilaterated
+  pub receiver_ids : plain.receiver_ids ≡ ear.counts.receiver_ids
+  pub damaged : plain.damaged ≡ ear.counts.damaged
+  pub aside : plain.aside ≡ ear.counts.aside
+  pub formats : plain.formats ≡ ear.counts.formats
+  pub breaks : plain.breaks ≡ ear.dates.breaks
+  pub ahead : plain.ahead ≡ (if is_ahead_of_arrivals ear.times then 1 else 0)
 
 -- the counts of a feed, or the fault if there is no feed
 abbrev pub IsFeedCounted : Option KeptFeed → (was is : PlainCounts) → Fault → Type 0
-IsFeedCounted (Some k) was is fault = AreCounts k.ear.counts is × (fault ≡ none)
+IsFeedCounted (Some k) was is fault = AreCounts k.ear is × (fault ≡ none)
 IsFeedCounted None was is fault = (is ≡ was) × (fault ≡ fault_of reasons.NoTracker)
 
 -- ---- the format of a source
@@ -185,6 +188,12 @@ stranger_number strangers.Packed = 7
 stranger_number strangers.Utf16 = 8
 stranger_number strangers.Json = 9
 stranger_number strangers.NoFrame = 10
+stranger_number strangers.Semicolons = 11
+stranger_number strangers.Tabs = 12
+stranger_number strangers.NoTime = 13
+stranger_number strangers.NoRawmsg = 14
+stranger_number strangers.NoSeconds = 15
+stranger_number strangers.NoNames = 16
 
 -- the number of a format, or of a source without a format; 4 while neither is known
 abbrev pub source_number : Option Format → Option Stranger → ℕ

@@ -6,7 +6,7 @@ ghost use Rattle.squitter_c.specs.Slots.{held_feed};
 
 use crate::faults::{Fault, NONE, Reason};
 use crate::feed_slot::{FEED_BYTES, FeedSlot, feed_in};
-use sq_feed::{Counts, Format, Manner, Stranger};
+use sq_feed::{Feed, Format, Manner, Stranger};
 use sq_lent::Room;
 
 /// Counts of the items of a source. `found` is the sum of all other counts.
@@ -25,6 +25,10 @@ pub struct PlainCounts {
     pub aside: u64,
     /// Frames of each downlink format other than 17. The last one counts formats 24 and above.
     pub formats: [u64; 25],
+    /// How often times went back, so that timestamps are moved on. These are no items.
+    pub breaks: u64,
+    /// 1 if the timestamps of a live source are ahead of its arrivals by more than a leap, otherwise 0.
+    pub ahead: u64,
 }
 
 /// Returns the size of a feed in bytes.
@@ -113,19 +117,20 @@ pub extern "C" fn squitter_feed_counts(feed: &mut FeedSlot, out: &mut PlainCount
 {
     match feed.take() {
         Some(taken) => {
-            let counts = taken.counts();
+            let counts = plain_counts(&taken);
             feed.put(taken);
-            *out = plain_counts(&counts);
+            *out = counts;
             NONE
         }
         None => Fault::of(Reason::NoTracker),
     }
 }
 
-// Returns counts as plain numbers.
-fn plain_counts(counts: &Counts) -> PlainCounts
-    ensures { AreCounts counts.now result }
+// Returns the counts of a feed as plain numbers.
+fn plain_counts(feed: &Feed) -> PlainCounts
+    ensures { AreCounts feed.now.ear result }
 {
+    let counts = feed.counts();
     PlainCounts {
         found: counts.found(),
         written: counts.written(),
@@ -135,12 +140,14 @@ fn plain_counts(counts: &Counts) -> PlainCounts
         damaged: counts.damaged(),
         aside: counts.aside(),
         formats: counts.formats(),
+        breaks: feed.breaks(),
+        ahead: u64::from(feed.is_ahead_of_arrivals()),
     }
 }
 
 /// Writes what the source is: 0 to 3 for its format; 5 for SBS text, 6 for a tar archive, 7 for a packed file, 8 for
-/// UTF-16, 9 for lines of JSON, 10 for bytes without frames; and 4 while none of these is known. At the end of a
-/// source it is known, if any byte came. The fault is `NoTracker` if there is no feed.
+/// UTF-16, 9 for lines of JSON, 10 for bytes without frames, 11 to 16 for tables that are not read; and 4 while none of
+/// these is known. At the end of a source it is known, if any byte came. The fault is `NoTracker` if there is no feed.
 #[unsafe(no_mangle)]
 pub extern "C" fn squitter_feed_format(feed: &mut FeedSlot, out: &mut u32) -> Fault
     ensures number { IsSourceNumber (held_feed feed.old) out.old out.new result }
@@ -174,6 +181,12 @@ fn source_number(format: Option<Format>, stranger: Option<Stranger>) -> u32
             Some(Stranger::Utf16) => 8,
             Some(Stranger::Json) => 9,
             Some(Stranger::NoFrame) => 10,
+            Some(Stranger::Semicolons) => 11,
+            Some(Stranger::Tabs) => 12,
+            Some(Stranger::NoTime) => 13,
+            Some(Stranger::NoRawmsg) => 14,
+            Some(Stranger::NoSeconds) => 15,
+            Some(Stranger::NoNames) => 16,
         },
     }
 }

@@ -1,8 +1,9 @@
 //! Guards of the definitions: each has one value, some value or an exact condition, so none can be weakened unnoticed.
 //! A function with an empty body does nothing: its contract is the statement.
 ghost use Rattle.std.specs.Prelude.{◌≡◌, ◌↔◌, ◌+◌, ◌≤◌, ◌<◌, [], ◌∷◌, Bool, List, ℕ, Option, Some, None, drop, false, length, map};
-ghost use Rattle.std.specs.Prelude.{take, true};
-ghost use Rattle.sq_feed.specs.Counts.{Tally};
+ghost use Rattle.std.specs.Prelude.{if◌then◌else◌, take, true};
+ghost use Rattle.sq_feed.specs.Ears.{Hears};
+ghost use Rattle.sq_feed.specs.Times.{is_ahead_of_arrivals};
 ghost use Rattle.sq_feed.specs.Feeds.{Feeding, HasClosedFeed, HasLost, HasToldLast, format_of_source, lines_of};
 ghost use Rattle.sq_feed.specs.Feeds.{nothing_fed, steps_left};
 ghost use Rattle.sq_feed.specs.declared.message.Timed.{Timed};
@@ -77,11 +78,12 @@ pub fn counts_exactly()
     ensures lost { (k : KeptFeed) (new : Option KeptFeed) (fault : Fault) → IsFeedLost (Some k) new fault
         ↔ ((next : KeptFeed) × (new ≡ Some next) × HasLost k next × (fault ≡ none)) }
     ensures counted { (k : KeptFeed) (was is : PlainCounts) (fault : Fault) → IsFeedCounted (Some k) was is fault
-        ↔ (AreCounts k.ear.counts is × (fault ≡ none)) }
-    ensures numbers { (tally : Tally) (is : PlainCounts) → AreCounts tally is ↔ ((is.found ≡ tally.found)
-        × (is.written ≡ tally.written) × (is.mode_ac ≡ tally.mode_ac) × (is.multilaterated ≡ tally.multilaterated)
-        × (is.receiver_ids ≡ tally.receiver_ids)
-        × (is.damaged ≡ tally.damaged) × (is.aside ≡ tally.aside) × (is.formats ≡ tally.formats)) }
+        ↔ (AreCounts k.ear is × (fault ≡ none)) }
+    ensures numbers { (ear : Hears) (is : PlainCounts) → AreCounts ear is ↔ ((is.found ≡ ear.counts.found)
+        × (is.written ≡ ear.counts.written) × (is.mode_ac ≡ ear.counts.mode_ac)
+        × (is.multilaterated ≡ ear.counts.multilaterated) × (is.receiver_ids ≡ ear.counts.receiver_ids)
+        × (is.damaged ≡ ear.counts.damaged) × (is.aside ≡ ear.counts.aside) × (is.formats ≡ ear.counts.formats)
+        × (is.breaks ≡ ear.dates.breaks) × (is.ahead ≡ (if is_ahead_of_arrivals ear.times then 1 else 0))) }
 {}
 
 /// The source of a feed, if there is a feed, and the numbers of all sources.
@@ -92,5 +94,8 @@ pub fn sources_exactly()
         → source_number (Some format) other ≡ feed_number (Some format) }
     ensures strangers { map (λ stranger. source_number None (Some stranger)) (Stranger.Sbs ∷ Stranger.Tar
         ∷ Stranger.Packed ∷ Stranger.Utf16 ∷ Stranger.Json ∷ Stranger.NoFrame ∷ []) ≡ 5 ∷ 6 ∷ 7 ∷ 8 ∷ 9 ∷ 10 ∷ [] }
+    ensures tables { map (λ stranger. source_number None (Some stranger)) (Stranger.Semicolons ∷ Stranger.Tabs
+        ∷ Stranger.NoTime ∷ Stranger.NoRawmsg ∷ Stranger.NoSeconds ∷ Stranger.NoNames ∷ [])
+        ≡ 11 ∷ 12 ∷ 13 ∷ 14 ∷ 15 ∷ 16 ∷ [] }
     ensures none { source_number None None ≡ 4 }
 {}

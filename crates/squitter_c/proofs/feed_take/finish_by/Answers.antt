@@ -1,4 +1,4 @@
-use Rattle.std.proofs.Common.{◌≡◌, ◌+◌, ◌∙◌, ◌++◌, ℕ, List, [], ap, ap₂, arith, length, refl, subst, sym, take, true, drop, ◌<◌, false}
+use Rattle.std.proofs.Common.{◌≡◌, ◌+◌, ◌∙◌, ◌++◌, ℕ, [], ap, ap₂, arith, length, refl, subst, sym, take, true, drop, ◌<◌, false}
 use Rattle.std.proofs.Common.{length-append}
 use Rattle.std.proofs.lemmas.List.{length-take-le}
 use Rattle.sq_feed.specs.Feeds.{HasTold, steps_left}

@@ -1,4 +1,4 @@
-use Rattle.std.proofs.Common.{◌≡◌, ◌+◌, ◌<◌, ◌≤◌, ◌∙◌, ℕ, ap, arith, drop, false, length, min, sym}
+use Rattle.std.proofs.Common.{◌+◌, ◌<◌, ◌≤◌, ◌∙◌, ℕ, ap, arith, drop, false, length, min, sym}
 use Rattle.std.specs.Prelude.{◌==◌, not}
 use Rattle.sq_feed.specs.Units.{unit_of}
 use Rattle.squitter_c.specs.Units.{unit_number, watched_arrays}
