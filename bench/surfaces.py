@@ -7,7 +7,8 @@ five ROUNDS, in nanoseconds a line. Rows of Python count the calls alone; all ot
 pipe counts both of its programs. Calls for one frame get the first twentieth of the log. `squitter-geojson` gets the
 results of the whole log as rows of CSV. `read_many` and `hear_many` make no result, since none is asked for. The
 answers of the program, also behind `squitter feed` and `squitter-feed`, of Python, Node and the page are compared, and
-the logs of the feeds too. Needs NumPy, pandas and a C compiler; skips Node and Chromium if missing."""
+the logs of the feeds too. Needs NumPy, pandas and a C compiler; skips Node and Chromium if missing. With ROWS in the
+environment, only rows with these words are timed, beside `track`: ROWS=squitter-feed."""
 import contextlib
 import hashlib
 import os
@@ -155,8 +156,8 @@ def ways_of_python(inputs: Inputs) -> Dict[str, Way]:
 
     def as_log() -> bytes:
         with squitter.Log(site=site) as log:
-            pieces = [log.take(text[at:at + TEXT_PIECE]) for at in range(0, len(text), TEXT_PIECE)]
-            return b"".join([*pieces, log.finish()])
+            pieces = [log.take_text(text[at:at + TEXT_PIECE]) for at in range(0, len(text), TEXT_PIECE)]
+            return b"".join([*pieces, log.finish_text()])
 
     def one_by_one() -> None:
         with squitter.Tracker(site=site) as tracker:
@@ -240,6 +241,14 @@ def ways_of_browsers(inputs: Inputs, program: str, closing: contextlib.ExitStack
     return rows
 
 
+def chosen(ways: Mapping[str, Way], words: str) -> Dict[str, Way]:
+    """Returns the rows that have these words, and that of `track`."""
+    found = {name: way for name, way in ways.items() if words in name or name == "squitter track"}
+    if words and len(found) < 2:
+        sys.exit(f"surfaces.py: no row has {words}")
+    return found
+
+
 def digest(text: str) -> str:
     return hashlib.sha256(text.encode()).hexdigest()
 
@@ -249,7 +258,7 @@ def feeds_differ(inputs: Inputs, runs: Mapping[str, Sequence[Took]]) -> bool:
     late = b"".join(b"%d %s\n" % (EPOCH + moment, frame.hex().upper().encode()) for moment, frame in inputs.squitters)
     logs = {name: late if name == "csv" else b"".join(inputs.lines) for name in inputs.feeds}
     sums = {row(name): hashlib.sha256(log).hexdigest() for name, log in logs.items() for row in (feed_row, script_row)}
-    return any(run.answers != wanted for row, wanted in sums.items() for run in runs[row])
+    return any(run.answers != wanted for row, wanted in sums.items() for run in runs.get(row, ()))
 
 
 def least(runs: Sequence[Took], count: int) -> Tuple[float, float]:
@@ -273,6 +282,7 @@ def main() -> None:
         inputs = Inputs(folder, count)
         ways = {**ways_of_programs(inputs, program), **ways_of_python(inputs),
                 **ways_of_browsers(inputs, program, closing)}
+        ways = chosen(ways, os.environ.get("ROWS", ""))
         turns = [[way.run() for way in ways.values()] for _ in range(rounds)]
     runs = dict(zip(ways, zip(*turns)))
     pipes = [row(name) for name in inputs.feeds for row in (pipe_row, behind_script)]

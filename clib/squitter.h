@@ -309,9 +309,9 @@ typedef struct squitter_order {
   void *at;
 } squitter_order;
 
-/* Counts of the items of a source. `found` is the sum of all other counts; at 2^64 - 1 all counts stop. A row that waits
- * for others to confirm its time is counted when that is decided. With
- * SQUITTER_FEED_ALL_FORMATS, `written` counts frames of all downlink formats, and `formats` none of these. */
+/* Counts of the items of a source. `found` is the sum of the other counts of items; at 2^64 - 1 all of these stop. A
+ * frame that waits for others to confirm its time is counted when that is decided. With SQUITTER_FEED_ALL_FORMATS,
+ * `written` counts frames of all downlink formats, and `formats` none of these. */
 typedef struct squitter_counts {
   uint64_t found;
   uint64_t written;        /* squitters, with a timestamp */
@@ -321,6 +321,9 @@ typedef struct squitter_counts {
   uint64_t damaged;        /* bytes outside messages, and frames of the wrong length for their downlink format */
   uint64_t aside;          /* squitters that were set aside because of their time */
   uint64_t formats[25];    /* frames of each downlink format other than 17; [24] counts formats 24 and above */
+  uint64_t breaks;         /* how often times went back, so that timestamps are moved on; these are no items */
+  uint64_t ahead;          /* 1 if timestamps of a live source are ahead of arrivals by more than `leap`, otherwise 0:
+                            * it is a recording, or its clock does not run at 12 MHz */
 } squitter_counts;
 
 /* ---- Texts and frames ---- */
@@ -504,12 +507,18 @@ enum {
 
 /* Sources without frames of a known format. */
 enum {
-  SQUITTER_FEED_SBS = 5,      /* SBS (BaseStation) text: it has positions and no frames */
-  SQUITTER_FEED_TAR = 6,      /* a tar archive */
-  SQUITTER_FEED_PACKED = 7,   /* compressed by gzip, bzip2, xz or zstd, or a zip archive */
-  SQUITTER_FEED_UTF16 = 8,    /* text in UTF-16 */
-  SQUITTER_FEED_JSON = 9,     /* lines of JSON */
-  SQUITTER_FEED_NO_FRAME = 10 /* bytes without frames */
+  SQUITTER_FEED_SBS = 5,         /* SBS (BaseStation) text: it has positions and no frames */
+  SQUITTER_FEED_TAR = 6,         /* a tar archive */
+  SQUITTER_FEED_PACKED = 7,      /* compressed by gzip, bzip2, xz or zstd, or a zip archive */
+  SQUITTER_FEED_UTF16 = 8,       /* text in UTF-16 */
+  SQUITTER_FEED_JSON = 9,        /* lines of JSON */
+  SQUITTER_FEED_NO_FRAME = 10,   /* bytes without frames */
+  SQUITTER_FEED_SEMICOLONS = 11, /* a table with semicolons between its columns */
+  SQUITTER_FEED_TABS = 12,       /* a table with tabs between its columns */
+  SQUITTER_FEED_NO_TIME = 13,    /* a table with a column `rawmsg`, and no column `time`, `mintime` or `timestamp` */
+  SQUITTER_FEED_NO_RAWMSG = 14,  /* a table with columns of the time and `icao24`, and no column `rawmsg` */
+  SQUITTER_FEED_NO_SECONDS = 15, /* a table with frames in its third column, and no seconds in its first one */
+  SQUITTER_FEED_NO_NAMES = 16    /* a table with frames in another column, and no names of its columns */
 };
 
 /* What timestamps seem to be. */
@@ -536,12 +545,12 @@ size_t squitter_feed_size(void) SQUITTER_PURE;
 
 /* Creates a feed in the block, at the start of a source. With SQUITTER_FEED_AUTO, the first bytes show the format: the
  * start of a Beast message, or two messages in a row after other bytes; a line of a log, a row of a table or its
- * header; a frame at the start of a line of AVR text. The first byte that shows a format decides, however the source is
+ * header; any other line with a frame of AVR text. The first byte that shows a format decides, however the source is
  * cut into pieces. The whole source is then read in that format, from its first byte on. A source that shows none in
- * its first 16384 bytes has no frames. A gap above `leap` milliseconds is a jump of the source's clock; without
- * SQUITTER_FEED_LIVE, a receiver's clock may also go ahead by a day. A timestamp may be before the latest one by `late`
- * milliseconds; with 0, timestamps never go back. Rows of a log or a table wait until others confirm their times: the
- * first row, and up to two that jump. They come with later calls, at the latest with the end. `flags` is a sum of
+ * its first 16384 bytes has no frames. A timestamp may be before the latest one by `late` milliseconds; with 0,
+ * timestamps never go back. A time jumps if it is more than `leap` milliseconds after the latest one, or before it by
+ * more than a second and `late`. Up to two frames that jump wait until others confirm their times, and so does the first
+ * row of a log or a table. They come with later calls, at the latest with the end. `flags` is a sum of
  * SQUITTER_FEED_LIVE, SQUITTER_FEED_BY_ARRIVAL and SQUITTER_FEED_ALL_FORMATS; its other bits are ignored. For a live
  * source, `arrival` is the time (ms) when the bytes were received. A frame without a clock is as much later than the
  * one before it as their arrivals are apart. An existing feed is freed first. After a fault there is no feed, and the
@@ -585,7 +594,7 @@ squitter_fault squitter_feed_finish_text(squitter_feed *SQUITTER_RESTRICT feed, 
                                          char *SQUITTER_RESTRICT out, size_t out_count,
                                          squitter_done *SQUITTER_RESTRICT done) SQUITTER_CALL;
 
-/* Drops an unfinished frame after a lost connection, and counts it as damaged. Rows that wait are decided; those that
+/* Drops an unfinished frame after a lost connection, and counts it as damaged. Frames that wait are decided; those that
  * get timestamps come with the next call. The next bytes belong to a new connection: its clock starts afresh, and
  * timestamps do not go back. Fault: NO_TRACKER. */
 squitter_fault squitter_feed_disconnected(squitter_feed *feed) SQUITTER_CALL;
@@ -768,7 +777,7 @@ SQUITTER_SIZE(squitter_done, 16);
 SQUITTER_SIZE(squitter_tally, 16);
 SQUITTER_SIZE(squitter_feed, 16);
 SQUITTER_SIZE(squitter_order, 16);
-SQUITTER_SIZE(squitter_counts, 256);
+SQUITTER_SIZE(squitter_counts, 272);
 
 #ifdef __cplusplus
 }

@@ -50,7 +50,7 @@ complete -c squitter -n '__fish_seen_subcommand_from track' -l help -d 'Print he
 
 complete -c squitter -n '__fish_seen_subcommand_from feed' -l format -x -a 'auto beast avr csv log' -d 'The input format'
 complete -c squitter -n '__fish_seen_subcommand_from feed' -l reorder -x -d 'Sort the lines by time, where frames come up to MS milliseconds late'
-complete -c squitter -n '__fish_seen_subcommand_from feed' -l leap -x -d 'Set frames aside after a jump of the clock by more than MS milliseconds, until three in a row agree'
+complete -c squitter -n '__fish_seen_subcommand_from feed' -l leap -x -d 'A time that goes ahead by more than MS milliseconds is a jump'
 complete -c squitter -n '__fish_seen_subcommand_from feed' -l arrival -d 'Ignore the receiver\'s clock'
 complete -c squitter -n '__fish_seen_subcommand_from feed' -l all -d 'Print frames of all downlink formats, not only extended squitters'
 complete -c squitter -n '__fish_seen_subcommand_from feed' -l help -d 'Print help'

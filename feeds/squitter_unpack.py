@@ -6,7 +6,7 @@ from __future__ import annotations
 import bz2
 import lzma
 import zlib
-from typing import Any, Callable, Dict, Generator, Iterator, NamedTuple, Optional, Tuple
+from typing import Any, Callable, Dict, Generator, Iterator, NamedTuple, Optional, Tuple, Union
 
 MEMORY = 100_000_000  # bytes that xz may take: its highest preset takes 65 MiB
 
@@ -86,9 +86,9 @@ class Unpacking:
         self.kind: Optional[Kind] = None  # of the archive, once one has begun
         self.member: Any = None  # what unpacks the member of the archive that has begun
 
-    def pieces(self, data: bytes) -> Iterator[bytes]:
+    def pieces(self, source: Union[bytes, memoryview]) -> Iterator[Union[bytes, memoryview]]:
         """Passes on what is known by these bytes. Raises `Refused` once that is done where an archive is damaged."""
-        data, self.head = self.head + data, b""
+        data, self.head = source if self.plain else self.head + source, b""
         while data and not self.plain:
             if self.member is None and not self._begins(data):
                 return

@@ -9,6 +9,7 @@ from typing import Any, Mapping, NoReturn
 
 VERSION = "0.1.0"
 REFUSED, MISUSED, FAILED = 1, 2, 3  # statuses
+PIECE = 65_536  # bytes that are read at once from a source that is live
 PLENTY = 2000  # the --reorder (ms) to try if frames were late or set aside
 
 
@@ -17,7 +18,9 @@ class Parser(argparse.ArgumentParser):
     error that has its whole words."""
 
     def __init__(self, name: str, text: str, hints: Mapping[str, str]) -> None:
-        super().__init__(prog=name, allow_abbrev=False)
+        # Without a width, argparse loads a module to find that of the terminal.
+        super().__init__(prog=name, allow_abbrev=False,
+                         formatter_class=lambda prog: argparse.HelpFormatter(prog, width=80))
         self.text = text
         self.hints = hints
         self.add_argument("--version", action="version", version=f"{name} {VERSION}")

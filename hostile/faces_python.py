@@ -17,9 +17,9 @@ def texts(data: bytes, pieces: str, *settings: object, form: int) -> bytes:
         for size in itertools.cycle(map(int, pieces.split(","))):
             if at >= len(data):
                 break
-            told.append(log.take(data[at:at + size]))
+            told.append(log.take_text(data[at:at + size]))
             at += size
-        return b"".join([*told, log.finish()])
+        return b"".join([*told, log.finish_text()])
 
 
 def rows(path: str, window: int, site: Optional[squitter.Position], limit: int) -> bytes:

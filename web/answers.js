@@ -3,19 +3,8 @@
 
 /** @typedef {Answers & {first: number}} Chunk  some results, with the number of results before them */
 
-/** What the page says of timestamps that are no milliseconds. */
-const UNIT_TEXTS = {
-  [Unit.SECONDS]: "The timestamps of this log seem to be seconds; they have to be milliseconds.",
-  [Unit.MICROSECONDS]: "The timestamps seem to be microseconds; a log has milliseconds, and a table has seconds.",
-  [Unit.NANOSECONDS]: "The timestamps seem to be nanoseconds; a log has milliseconds, and a table has seconds.",
-  [Unit.ALL_ZERO]: "All frames of this file have the timestamp 0, as without times: old ones pair with new.",
-  [Unit.GPS]: "The clock of this source seems to be GPS time (Radarcape): set it to 12 MHz.",
-};
-
 /** The number of results that show the unit of their timestamps. */
 const WATCHED = 1 << 14;
-
-const HEARD = ["refused", "fix", "followed", "waiting", "split", "far", "no site", "no position"];
 
 /** The results of a log so far, and those that pass the filter. */
 class LogAnswers {
@@ -124,7 +113,7 @@ class LogAnswers {
       return [number, "", `refused: ${words}`, "", "", "", ""];
     }
     const isPlace = what === 1 || what === 2;
-    const heard = what === 4 ? `split ${chunk.evens[at]} ${chunk.odds[at]}` : HEARD[what];
+    const heard = what === What.SPLIT ? `${HEARD[what]} ${chunk.evens[at]} ${chunk.odds[at]}` : HEARD[what];
     const place = isPlace ? [chunk.lats[at].toFixed(7), chunk.lons[at].toFixed(7)] : ["", ""];
     const address = hexadecimal(chunk.addresses[at], 6), time = this.clock.text(chunk.moments[at]);
     return [number, time, heard, address, ...place, feetText(chunk.feet[at])];

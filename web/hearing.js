@@ -19,17 +19,11 @@ async function squitterUnpacked(file) {
   }
 }
 
-/** Names the kind of a text that is neither a log nor a feed: a table in another form, or a text without frames.
- * Returns "" for any other text. @param {Uint8Array} first the first bytes of the file */
+/** Says that a text that is no feed has no frames. Returns "" for a text with the digits of one: it may be a log.
+ * @param {Uint8Array} first the first bytes of the file */
 function squitterTextKind(first) {
-  const text = new TextDecoder("latin1").decode(first);
-  const cell = /(^|[;\t,])"?(?:rawmsg|8[0-9a-f]{27})"?([;\t,]?)/im.exec(text);
-  if (!cell) return /[0-9a-f]{28}/i.test(text) ? "" : "It has no frames: a frame has 28 hexadecimal digits.";
-  return {
-    ";": "It is a table with semicolons between its columns: they have to be commas.",
-    "\t": "It is a table with tabs between its columns: they have to be commas.",
-    ",": "It is a table without times in seconds: it needs the columns time and rawmsg.",
-  }[cell[1] || cell[2]] ?? "";
+  const hasFrame = /[0-9a-f]{28}/i.test(new TextDecoder("latin1").decode(first));
+  return hasFrame ? "" : "It has no frames: a frame has 28 hexadecimal digits.";
 }
 
 /** Returns the feed that turns a receiver's bytes into a log, or null for a log, and a text that names any other kind.
@@ -47,6 +41,16 @@ function squitterFeedOf({ Feed, FeedFormat, Stranger }, library, first) {
     [Stranger.PACKED]: "It is compressed: only gzip is unpacked here, and once.",
     [Stranger.UTF16]: "It is UTF-16: save it as UTF-8.",
     [Stranger.JSON]: "It is JSON, which has no frames.",
+    [Stranger.SEMICOLONS]: "The table has semicolons between its columns: they have to be commas, and its decimal " +
+      "commas points.",
+    [Stranger.TABS]: "The table has tabs between its columns: they have to be commas.",
+    [Stranger.NO_TIME]: "The table has no column time (seconds): name its columns time, icao24 and rawmsg in the " +
+      "first row.",
+    [Stranger.NO_RAWMSG]: "The table has no column rawmsg, so it has no frames: take one that has them.",
+    [Stranger.NO_SECONDS]: "The first column of the table has no times in seconds, as 1700000000.25: " +
+      "milliseconds and dates are not read.",
+    [Stranger.NO_NAMES]: "The third column of the table has no frames: name its columns time (seconds), icao24 and " +
+      "rawmsg in the first row.",
   }[stranger] ?? (format === null ? squitterTextKind(first) : "");
   if (format === null || format === FeedFormat.LOG) return { feed: null, kind };
   if (!isTimed && format === FeedFormat.BEAST) throw new Error("its frames have no times");

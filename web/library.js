@@ -24,14 +24,17 @@ const AltitudeForm = Object.freeze({ NONE: 0, FEET: 1, OTHER: 2 });
 const What = Object.freeze({ FIX: 1, FOLLOWED: 2, WAITING: 3, SPLIT: 4, FAR: 5, WITHOUT_SITE: 6, NO_PLACE: 7 });
 const Format = Object.freeze({ LINES: 0, CSV: 1, JSON: 2 });
 const FeedFormat = Object.freeze({ BEAST: 0, AVR: 1, CSV: 2, LOG: 3, AUTO: 4 });
-const Stranger = Object.freeze({ SBS: 5, TAR: 6, PACKED: 7, UTF16: 8, JSON: 9, NO_FRAME: 10 });
+const Stranger = Object.freeze({
+  SBS: 5, TAR: 6, PACKED: 7, UTF16: 8, JSON: 9, NO_FRAME: 10, SEMICOLONS: 11, TABS: 12, NO_TIME: 13, NO_RAWMSG: 14,
+  NO_SECONDS: 15, NO_NAMES: 16,
+});
 const Unit = Object.freeze({
   MILLISECONDS: 0, SECONDS: 1, MICROSECONDS: 2, NANOSECONDS: 3, ALL_ZERO: 4, GPS: 5,
 });
 const BYTES = Object.freeze({
   fault: 16, angle: 16, position: 32, degreesE7: 8, fields: 40, airHead: 12, groundHead: 12, altitude: 8, zones: 16,
   received: 24, lastFix: 40, side: 88, entry: 192, last: 16, heard: 40, block: 16, tracker: 16, present: 16, log: 16,
-  answer: 96, done: 16, tally: 16, feed: 16, order: 16, counts: 256,
+  answer: 96, done: 16, tally: 16, feed: 16, order: 16, counts: 272,
 });
 const AT = Object.freeze({
   fault: Object.freeze({ code: 0, second: 4, first: 8 }),
@@ -67,6 +70,7 @@ const AT = Object.freeze({
   order: Object.freeze({ full: 0, at: 8 }),
   counts: Object.freeze({
     found: 0, written: 8, modeAc: 16, multilaterated: 24, receiverIds: 32, damaged: 40, aside: 48, formats: 56,
+    breaks: 256, ahead: 264,
   }),
 });
 const AIR_HEAD_MEMBERS = [
@@ -171,6 +175,8 @@ function readCounts(view, at) {
     damaged: view.getBigUint64(at + 40, true),
     aside: view.getBigUint64(at + 48, true),
     formats: Array.from({ length: 25 }, (_, index) => view.getBigUint64(at + 56 + 8 * index, true)),
+    breaks: view.getBigUint64(at + 256, true),
+    ahead: view.getBigUint64(at + 264, true),
   };
 }
 function writeFault(view, at, value) {
@@ -190,11 +196,14 @@ function writeLast(view, at, value) {
   view.setBigUint64(at, value.moment, true);
   view.setBigUint64(at + 8, value.heard, true);
 }
-const WINDOW = 10_000n;
-const FRAME_TEXT = "a frame text is 28 hexadecimal digits, bare or between * and ;";
-const POSITION = "a latitude is from -90 to 90 degrees, a longitude from -180 to 180, with at most 12 decimals";
+const FAULTS = Object.freeze({
+  [Code.NO_TRACKER]: "no tracker, log, feed or order",
+});
 const HINTS = Object.freeze({
-  [Code.WRAP]: FRAME_TEXT, [Code.SHORT]: FRAME_TEXT, [Code.LENGTH]: FRAME_TEXT, [Code.DIGIT]: FRAME_TEXT,
+  [Code.WRAP]: "a frame text is 28 hexadecimal digits, bare or between * and ;",
+  [Code.SHORT]: "a frame text is 28 hexadecimal digits, bare or between * and ;",
+  [Code.LENGTH]: "a frame text is 28 hexadecimal digits, bare or between * and ;",
+  [Code.DIGIT]: "a frame text is 28 hexadecimal digits, bare or between * and ;",
   [Code.NOT_DF17]: "only extended squitters (DF17) are read; skip other frames",
   [Code.PARITY]: "the frame is damaged; skip it",
   [Code.NOT_POSITION]: "the message is no position; only kinds AIR and GROUND are",
@@ -204,13 +213,15 @@ const HINTS = Object.freeze({
   [Code.NO_SITE]: "give the receiver position as the site",
   [Code.OUT_OF_RANGE]: "use newer frames, or a nearer reference",
   [Code.ZONE_COUNTS]: "the frames lie on two sides of a zone border; use newer ones",
-  [Code.BAD_POSITION]: POSITION,
-  [Code.BAD_LATITUDE]: "a latitude is from -90 to 90 degrees, with at most 12 decimals",
-  [Code.BAD_ANGLE]: "an angle is from -360 to 360 degrees, with at most 12 decimals",
+  [Code.BAD_POSITION]: "a latitude is from -90 to 90 degrees, a longitude from -180 to 180, with at"
+    + " most 12 decimals",
   [Code.BAD_FIELDS]: "squitter.h has the range of each field",
+  [Code.BAD_ANGLE]: "an angle is from -360 to 360 degrees, with at most 12 decimals",
+  [Code.BAD_LATITUDE]: "a latitude is from -90 to 90 degrees, with at most 12 decimals",
   [Code.BAD_FEET]: "feet are a multiple of 25 from -1000 to 50175",
   [Code.BAD_PARITY]: "odd is 0 or 1",
-  [Code.NOT_A_NUMBER]: "an angle text is one to three digits, with an optional - before and decimals after",
+  [Code.NOT_A_NUMBER]: "an angle text is one to three digits, with an optional - before and "
+    + "decimals after, such as '-52.25'",
   [Code.TOO_MANY_DECIMALS]: "an angle text has at most 12 decimals",
   [Code.ANGLE_RANGE]: "an angle is from -360 to 360 degrees",
   [Code.MOMENT_BACK]: "timestamps must not decrease; sort the frames first, as an Order does",
@@ -220,6 +231,7 @@ const HINTS = Object.freeze({
   [Code.NO_ADDRESS]: "an index is below the number of aircraft that are present",
   [Code.BAD_ENTRY]: "the state was saved with other settings, or is damaged",
 });
+const WINDOW = 10_000n;
 class Fault extends Error {
   constructor(message, code, first = 0n, second = 0) {
     super(message);
@@ -1095,6 +1107,7 @@ class Squitter {
     const numbers = [[code, 32], [first, 64], [second, 32]].map(([value, bits]) => [whole(value), bits]);
     const fit = numbers.every(([value, bits]) => BigInt.asUintN(bits, value) === value);
     if (!fit) throw new RangeError("a fault has a code and a second number below 2^32 and a first below 2^64");
+    if (Number(code) in FAULTS) return FAULTS[Number(code)];
     writeFault(view, faultAt, { code: Number(code), first: BigInt(first), second: Number(second) });
     exports.squitter_text_of_fault(BigInt(faultAt), BigInt(outAt));
     return this.memory.getText(outAt, FAULT_TEXT_BYTES);

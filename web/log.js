@@ -139,9 +139,10 @@ class LogPanel {
     const parts = [`${this.name}: ${how}. ${some(count, "line")}, ${some(places, "position")}, ${refused} refused, ` +
       `in ${this.seconds.toFixed(1)} s.`];
     if (feed) {
-      const { found, written, damaged, aside } = feed;
+      const { found, written, damaged, aside, breaks } = feed;
       parts.push(`The file has ${some(found, "frame")}: ${some(written, "squitter")}, ${damaged} damaged.`);
       if (aside) parts.push(`It has ${some(aside, "squitter")} out of order, set aside. Is it sorted by time?`);
+      if (breaks) parts.push(`Its times went back (${some(breaks, "jump")}); timestamps after that are moved on.`);
     }
     if (withoutSite) {
       const what = withoutSite === 1 ? "1 frame from the ground has" : `${withoutSite} frames from the ground have`;
@@ -252,6 +253,9 @@ class LogPanel {
   listen() {
     byId("log-form").addEventListener("submit", (event) => event.preventDefault());
     byId("filter-form").addEventListener("submit", (event) => event.preventDefault());
+    for (const what of [...Object.values(What), 0]) {
+      byId("filter-what").append(element("option", { value: String(what) }, HEARD[what]));
+    }
     byId("filter-form").addEventListener("input", () => this.setFilter());
     for (const name of ["lat", "lon", "window", "limit"]) {
       byId(`log-${name}`).addEventListener("change", () => this.hearAgain());

@@ -7,7 +7,7 @@
 /** @typedef {import("./squitter.js").Position} Position */
 /** @typedef {import("./squitter.js").Place} Place */
 
-const { load, AirHead, GroundHead, Code, Format, Kind, Unit } = squitterModule();
+const { load, AirHead, GroundHead, Code, Format, Kind, Unit, What } = squitterModule();
 
 /** Returns the element with an id. @returns {any} */
 const byId = (id) => document.getElementById(id);

@@ -324,7 +324,7 @@ export interface Squitters {
   readonly frames: Uint8Array;
 }
 
-/** Counts of the items of a source: `found` is the sum of all other counts. */
+/** Counts of the items of a source: `found` is the sum of the other counts of items. */
 export interface Counts {
   readonly found: bigint;
   /** Squitters, with a timestamp. */
@@ -339,6 +339,11 @@ export interface Counts {
   /** Frames of each downlink format other than 17; the last number counts formats 24 and above. With `allFormats` these
    * frames count as `written`. */
   readonly formats: bigint[];
+  /** How often times went back, so that timestamps are moved on. These are no items. */
+  readonly breaks: bigint;
+  /** 1 if the timestamps of a live source are ahead of its arrivals by more than a leap, otherwise 0: it is a
+   * recording, or its clock does not run at 12 MHz. */
+  readonly ahead: bigint;
 }
 
 /** Finds the squitters in a receiver's bytes, with their timestamps in milliseconds. The bytes come in pieces of any

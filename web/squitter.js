@@ -18,7 +18,7 @@
  * in place of a whole number throws a TypeError. */
 
 import {
-  AIR_HEAD_MEMBERS, ANGLE_TEXT_BYTES, AltitudeForm, Code, FAULT_TEXT_BYTES, FRAME_BYTES, FRAME_DIGITS,
+  AIR_HEAD_MEMBERS, ANGLE_TEXT_BYTES, AltitudeForm, Code, FAULTS, FAULT_TEXT_BYTES, FRAME_BYTES, FRAME_DIGITS,
   GROUND_HEAD_MEMBERS, readAltitude, readDegreesE7, writeFault,
 } from "./squitter_layout.js";
 import { Memory, ask, angleAt, positionAt } from "./squitter_memory.js";
@@ -250,6 +250,7 @@ export class Squitter {
     const numbers = [[code, 32], [first, 64], [second, 32]].map(([value, bits]) => [whole(value), bits]);
     const fit = numbers.every(([value, bits]) => BigInt.asUintN(bits, value) === value);
     if (!fit) throw new RangeError("a fault has a code and a second number below 2^32 and a first below 2^64");
+    if (Number(code) in FAULTS) return FAULTS[Number(code)];
     writeFault(view, faultAt, { code: Number(code), first: BigInt(first), second: Number(second) });
     exports.squitter_text_of_fault(BigInt(faultAt), BigInt(outAt));
     return this.memory.getText(outAt, FAULT_TEXT_BYTES);

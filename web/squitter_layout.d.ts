@@ -1,4 +1,4 @@
-/* Made by clib/bindings from clib/squitter.h. Edit the header and run the script. */
+/* Made by clib/bindings from clib/squitter.h and clib/texts. Edit these and run the script. */
 
 /** The codes of faults. */
 export declare const Code: {
@@ -150,6 +150,18 @@ export declare const Stranger: {
   readonly JSON: 9;
   /** Bytes without frames. */
   readonly NO_FRAME: 10;
+  /** A table with semicolons between its columns. */
+  readonly SEMICOLONS: 11;
+  /** A table with tabs between its columns. */
+  readonly TABS: 12;
+  /** A table with a column `rawmsg`, and no column `time`, `mintime` or `timestamp`. */
+  readonly NO_TIME: 13;
+  /** A table with columns of the time and `icao24`, and no column `rawmsg`. */
+  readonly NO_RAWMSG: 14;
+  /** A table with frames in its third column, and no seconds in its first one. */
+  readonly NO_SECONDS: 15;
+  /** A table with frames in another column, and no names of its columns. */
+  readonly NO_NAMES: 16;
 };
 export type Stranger = (typeof Stranger)[keyof typeof Stranger];
 

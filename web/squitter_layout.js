@@ -1,4 +1,4 @@
-/* Made by clib/bindings from clib/squitter.h. Edit the header and run the script. */
+/* Made by clib/bindings from clib/squitter.h and clib/texts. Edit these and run the script. */
 
 export const VERSION = 256;
 export const FRAME_BYTES = 14; // of a frame
@@ -37,7 +37,10 @@ export const Format = Object.freeze({ LINES: 0, CSV: 1, JSON: 2 });
 export const FeedFormat = Object.freeze({ BEAST: 0, AVR: 1, CSV: 2, LOG: 3, AUTO: 4 });
 
 /** Sources without frames of a known format. */
-export const Stranger = Object.freeze({ SBS: 5, TAR: 6, PACKED: 7, UTF16: 8, JSON: 9, NO_FRAME: 10 });
+export const Stranger = Object.freeze({
+  SBS: 5, TAR: 6, PACKED: 7, UTF16: 8, JSON: 9, NO_FRAME: 10, SEMICOLONS: 11, TABS: 12, NO_TIME: 13, NO_RAWMSG: 14,
+  NO_SECONDS: 15, NO_NAMES: 16,
+});
 
 /** What timestamps seem to be. */
 export const Unit = Object.freeze({
@@ -48,7 +51,7 @@ export const Unit = Object.freeze({
 export const BYTES = Object.freeze({
   fault: 16, angle: 16, position: 32, degreesE7: 8, fields: 40, airHead: 12, groundHead: 12, altitude: 8, zones: 16,
   received: 24, lastFix: 40, side: 88, entry: 192, last: 16, heard: 40, block: 16, tracker: 16, present: 16, log: 16,
-  answer: 96, done: 16, tally: 16, feed: 16, order: 16, counts: 256,
+  answer: 96, done: 16, tally: 16, feed: 16, order: 16, counts: 272,
 });
 
 /** The offset of each member of each struct in bytes. */
@@ -86,6 +89,7 @@ export const AT = Object.freeze({
   order: Object.freeze({ full: 0, at: 8 }),
   counts: Object.freeze({
     found: 0, written: 8, modeAc: 16, multilaterated: 24, receiverIds: 32, damaged: 40, aside: 48, formats: 56,
+    breaks: 256, ahead: 264,
   }),
 });
 
@@ -218,6 +222,8 @@ export function readCounts(view, at) {
     damaged: view.getBigUint64(at + 40, true),
     aside: view.getBigUint64(at + 48, true),
     formats: Array.from({ length: 25 }, (_, index) => view.getBigUint64(at + 56 + 8 * index, true)),
+    breaks: view.getBigUint64(at + 256, true),
+    ahead: view.getBigUint64(at + 264, true),
   };
 }
 
@@ -245,3 +251,42 @@ export function writeLast(view, at, value) {
   view.setBigUint64(at, value.moment, true);
   view.setBigUint64(at + 8, value.heard, true);
 }
+
+/** The texts of faults for which the library's is too narrow. */
+export const FAULTS = Object.freeze({
+  [Code.NO_TRACKER]: "no tracker, log, feed or order",
+});
+
+/** What to do after a fault. */
+export const HINTS = Object.freeze({
+  [Code.WRAP]: "a frame text is 28 hexadecimal digits, bare or between * and ;",
+  [Code.SHORT]: "a frame text is 28 hexadecimal digits, bare or between * and ;",
+  [Code.LENGTH]: "a frame text is 28 hexadecimal digits, bare or between * and ;",
+  [Code.DIGIT]: "a frame text is 28 hexadecimal digits, bare or between * and ;",
+  [Code.NOT_DF17]: "only extended squitters (DF17) are read; skip other frames",
+  [Code.PARITY]: "the frame is damaged; skip it",
+  [Code.NOT_POSITION]: "the message is no position; only kinds AIR and GROUND are",
+  [Code.OTHER_ADDRESS]: "give two frames of one aircraft",
+  [Code.OTHER_KIND]: "give two airborne or two surface positions",
+  [Code.SAME_PARITY]: "give an even and an odd frame",
+  [Code.NO_SITE]: "give the receiver position as the site",
+  [Code.OUT_OF_RANGE]: "use newer frames, or a nearer reference",
+  [Code.ZONE_COUNTS]: "the frames lie on two sides of a zone border; use newer ones",
+  [Code.BAD_POSITION]: "a latitude is from -90 to 90 degrees, a longitude from -180 to 180, with at"
+    + " most 12 decimals",
+  [Code.BAD_FIELDS]: "squitter.h has the range of each field",
+  [Code.BAD_ANGLE]: "an angle is from -360 to 360 degrees, with at most 12 decimals",
+  [Code.BAD_LATITUDE]: "a latitude is from -90 to 90 degrees, with at most 12 decimals",
+  [Code.BAD_FEET]: "feet are a multiple of 25 from -1000 to 50175",
+  [Code.BAD_PARITY]: "odd is 0 or 1",
+  [Code.NOT_A_NUMBER]: "an angle text is one to three digits, with an optional - before and "
+    + "decimals after, such as '-52.25'",
+  [Code.TOO_MANY_DECIMALS]: "an angle text has at most 12 decimals",
+  [Code.ANGLE_RANGE]: "an angle is from -360 to 360 degrees",
+  [Code.MOMENT_BACK]: "timestamps must not decrease; sort the frames first, as an Order does",
+  [Code.TABLE_FULL]: "raise the limit",
+  [Code.NO_LIMIT]: "a limit is at least 1",
+  [Code.NO_TRACKER]: "it is closed",
+  [Code.NO_ADDRESS]: "an index is below the number of aircraft that are present",
+  [Code.BAD_ENTRY]: "the state was saved with other settings, or is damaged",
+});

@@ -1,9 +1,9 @@
 /* squitter_memory.js: the memory of the module of squitter.js, and how calls find their arguments and results there. */
 
 import {
-  AT, AltitudeForm, Fields, Kind, What, readAngle, readFault, readZones, writeAngle, writeBlock,
+  AT, AltitudeForm, Fields, HINTS, Kind, What, readAngle, readFault, readZones, writeAngle, writeBlock,
 } from "./squitter_layout.js";
-import { Angle, Fault, HINTS, PAGE_BYTES, fitted, fraction } from "./squitter_values.js";
+import { Angle, Fault, PAGE_BYTES, fitted, fraction } from "./squitter_values.js";
 
 /** The memory of the module, and the addresses of arguments and results, above the memory that the module uses. */
 export class Memory {

@@ -1,41 +1,9 @@
 /* squitter_values.js: the faults, angles and heads of squitter.js, and the checks of what a caller passes. */
 
-import { Code, FRAME_BYTES } from "./squitter_layout.js";
+import { FRAME_BYTES } from "./squitter_layout.js";
 
 /** The default window of trackers, contacts and logs, in milliseconds: 10 seconds, as that of `squitter track`. */
 export const WINDOW = 10_000n;
-
-const FRAME_TEXT = "a frame text is 28 hexadecimal digits, bare or between * and ;";
-const POSITION = "a latitude is from -90 to 90 degrees, a longitude from -180 to 180, with at most 12 decimals";
-
-/** What to do after a fault. Python has the same words, for the codes that do not show the value there. */
-export const HINTS = Object.freeze({
-  [Code.WRAP]: FRAME_TEXT, [Code.SHORT]: FRAME_TEXT, [Code.LENGTH]: FRAME_TEXT, [Code.DIGIT]: FRAME_TEXT,
-  [Code.NOT_DF17]: "only extended squitters (DF17) are read; skip other frames",
-  [Code.PARITY]: "the frame is damaged; skip it",
-  [Code.NOT_POSITION]: "the message is no position; only kinds AIR and GROUND are",
-  [Code.OTHER_ADDRESS]: "give two frames of one aircraft",
-  [Code.OTHER_KIND]: "give two airborne or two surface positions",
-  [Code.SAME_PARITY]: "give an even and an odd frame",
-  [Code.NO_SITE]: "give the receiver position as the site",
-  [Code.OUT_OF_RANGE]: "use newer frames, or a nearer reference",
-  [Code.ZONE_COUNTS]: "the frames lie on two sides of a zone border; use newer ones",
-  [Code.BAD_POSITION]: POSITION,
-  [Code.BAD_LATITUDE]: "a latitude is from -90 to 90 degrees, with at most 12 decimals",
-  [Code.BAD_ANGLE]: "an angle is from -360 to 360 degrees, with at most 12 decimals",
-  [Code.BAD_FIELDS]: "squitter.h has the range of each field",
-  [Code.BAD_FEET]: "feet are a multiple of 25 from -1000 to 50175",
-  [Code.BAD_PARITY]: "odd is 0 or 1",
-  [Code.NOT_A_NUMBER]: "an angle text is one to three digits, with an optional - before and decimals after",
-  [Code.TOO_MANY_DECIMALS]: "an angle text has at most 12 decimals",
-  [Code.ANGLE_RANGE]: "an angle is from -360 to 360 degrees",
-  [Code.MOMENT_BACK]: "timestamps must not decrease; sort the frames first, as an Order does",
-  [Code.TABLE_FULL]: "raise the limit",
-  [Code.NO_LIMIT]: "a limit is at least 1",
-  [Code.NO_TRACKER]: "it is closed",
-  [Code.NO_ADDRESS]: "an index is below the number of aircraft that are present",
-  [Code.BAD_ENTRY]: "the state was saved with other settings, or is damaged",
-});
 
 /** The first error of a call. Its message is the library's text, and after a colon what to do. */
 export class Fault extends Error {

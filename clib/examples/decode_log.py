@@ -19,9 +19,9 @@ def main() -> None:
     try:
         with given as file, squitter.Log() as log:
             for piece in iter(lambda: file.read1(1 << 16), b""):
-                out.write(log.take(piece))
+                out.write(log.take_text(piece))
                 out.flush()
-            out.write(log.finish())
+            out.write(log.finish_text())
             out.flush()
     except OSError as error:
         print(f"decode_log.py: {error.strerror}", file=sys.stderr, flush=True)

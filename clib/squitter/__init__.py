@@ -21,11 +21,12 @@ import functools
 import operator
 import struct
 from array import array
-from dataclasses import dataclass
 from decimal import Decimal
 from fractions import Fraction
 from numbers import Rational
-from typing import Any, Callable, Iterable, List, NamedTuple, Optional, Sequence, Tuple, TypeVar, Union
+from typing import (
+    TYPE_CHECKING, Any, Callable, Iterable, List, NamedTuple, Optional, Sequence, Tuple, TypeVar, Union,
+)
 
 from squitter._errors import (
     hint_of_altitude, hint_of_code, hint_of_field, hint_of_head, hint_of_text, index, shown, whole,
@@ -34,10 +35,13 @@ from squitter._library import (
     _FRAME, _Position, _fits, _frames, _layout, _length, _lib, _lowest_two, _quick, _read_angle, _text,
 )
 from squitter._made import (
-    ANGLE_TEXT_BYTES, FAULT_TEXT_BYTES, FRAME_BYTES, FRAME_DIGITS, AltitudeForm, Code, FeedFormat, Format, Kind,
+    ANGLE_TEXT_BYTES, FAULTS, FAULT_TEXT_BYTES, FRAME_BYTES, FRAME_DIGITS, AltitudeForm, Code, FeedFormat, Format, Kind,
     Stranger, Unit, What, _AirHead, _Altitude, _Angle, _DegreesE7, _Fault, _Fields, _GroundHead, _Heard, _Zones,
 )
 from squitter._results import Results
+
+if TYPE_CHECKING:
+    from squitter._heads import AirHead, GroundHead
 
 __all__ = [
     "AirHead", "Altitude", "AltitudeForm", "Code", "Contact", "Counts", "Fault", "Feed", "FeedFormat", "Fields",
@@ -51,6 +55,15 @@ __all__ = [
 def __dir__() -> List[str]:
     """Returns the public names, which a prompt completes."""
     return sorted({*__all__, *(name for name in globals() if name.startswith("__") or name == "batch")})
+
+
+def __getattr__(name: str) -> Any:
+    """Loads the heads when one is first used."""
+    if name not in ("AirHead", "GroundHead"):
+        raise AttributeError(f"module {__name__!r} has no attribute {name!r}")
+    from squitter import _heads
+
+    return getattr(_heads, name)
 
 
 Frame = Union[bytes, bytearray, str]
@@ -134,34 +147,6 @@ class Fields(NamedTuple):
     def lon_code(self) -> Optional[int]:
         """The CPR code of the longitude, 17 bits: the field `lon`, which is not in degrees."""
         return self.lon
-
-
-@dataclass(frozen=True)
-class AirHead:
-    """The fields of an airborne position squitter, except its position."""
-
-    address: int
-    altitude: int = 0
-    ca: int = 5
-    type_code: int = 11
-    status: int = 0
-    flag: int = 0
-    time: int = 0
-    odd: int = 0
-
-
-@dataclass(frozen=True)
-class GroundHead:
-    """The fields of a surface position squitter, except its position."""
-
-    address: int
-    ca: int = 4
-    type_code: int = 7
-    movement: int = 0
-    track_status: int = 0
-    track: int = 0
-    time: int = 0
-    odd: int = 0
 
 
 class Zones(NamedTuple):
@@ -518,6 +503,8 @@ def pair_many(older: Frames, newer: Frames, site: Optional[Point] = None) -> Res
 
 def encode(head: Union[AirHead, GroundHead], position: Point) -> bytes:
     """Returns the frame for a position, with this head."""
+    from squitter._heads import AirHead
+
     is_air = isinstance(head, AirHead)
     plain, out = _plain_head(head, is_air), _FRAME()
     call = _lib.squitter_encode_air if is_air else _lib.squitter_encode_ground
@@ -554,6 +541,8 @@ def _plain_head(head: Union[AirHead, GroundHead], is_air: bool) -> Union[_AirHea
 def _head_done(fault: _Fault, head: Union[AirHead, GroundHead], is_air: bool) -> None:
     """Raises the Fault BAD_FIELDS, with the first invalid field of the head, if that is the fault."""
     if fault.code == Code.BAD_FIELDS:
+        from squitter._heads import AirHead, GroundHead
+
         other = "" if isinstance(head, (AirHead, GroundHead)) else "; a head is an AirHead or a GroundHead"
         raise Fault(Code.BAD_FIELDS, hint=hint_of_head(is_air, head) + other)
 
@@ -565,7 +554,7 @@ def send_again(source: Frame, odd: int, position: Point) -> bytes:
     except TypeError:
         parity = -1
     if parity not in (0, 1):
-        raise Fault(Code.BAD_PARITY, hint=f"odd is 0 or 1, not {shown(odd)}")
+        raise Fault(Code.BAD_PARITY, hint=f"{hint_of_code(Code.BAD_PARITY)}, not {shown(odd)}")
     here, out = _position(position), _FRAME()
     again = _lib.squitter_send_again(_frame_near(source, here), parity, ctypes.byref(here), ctypes.byref(out))
     _done(again, *here.given)
@@ -627,7 +616,7 @@ def field_of_feet(feet: int) -> int:
     """Returns the altitude field for these feet, a multiple of 25 from -1000 to 50175."""
     number, out = index(feet, "feet are a whole number"), ctypes.c_uint16()
     if not -1 << 31 <= number < 1 << 31 or _lib.squitter_field_of_feet(number, ctypes.byref(out)).code:
-        raise Fault(Code.BAD_FEET, hint=f"feet are a multiple of 25 from -1000 to 50175, not {shown(feet)}")
+        raise Fault(Code.BAD_FEET, hint=f"{hint_of_code(Code.BAD_FEET)}, not {shown(feet)}")
     return out.value
 
 
@@ -637,6 +626,8 @@ def fault_text(code: int, first: int = 0, second: int = 0) -> str:
     code, first, second = (
         whole(number, bits, f"the {name} of a fault is a whole number from 0")
         for number, bits, name in ((code, 32, "code"), (first, 64, "first number"), (second, 32, "second number")))
+    if code in FAULTS:
+        return FAULTS[code]
     plain, out = _Fault(code, second, first), ctypes.create_string_buffer(FAULT_TEXT_BYTES)
     _lib.squitter_text_of_fault(ctypes.byref(plain), out)
     return out.value.decode("ascii")

@@ -12,7 +12,7 @@ import numpy.typing as npt
 import squitter
 from squitter import WINDOW, AltitudeForm, Kind, Point, Position, What
 from squitter._errors import missing
-from squitter._made import _Answer
+from squitter._made import COLUMNS, KINDS, WHATS, _Answer
 from squitter._records import FAULT, POSITION, TRACKED, Records, _limit, _moments, kind_of, name_of_type, refuse_mask
 from squitter._source import WATCHED, Source, bytes_of, refuse_none, squitters_of, unpacked, warn_of_unit
 
@@ -21,8 +21,7 @@ if TYPE_CHECKING:
 
 # ---- texts ----
 
-_WORDS = np.array(["", "fix", "followed", "waiting", "split", "far", "no site", "no position"], "S11")
-_KINDS = np.array(["other", "air", "ground"], "S6")
+_WORDS, _KINDS = np.array(["", *WHATS.values()], "S"), np.array([*KINDS.values()], "S")
 
 
 def lines(heard: Records, faults: Records, first: int = 1) -> bytes:
@@ -203,14 +202,10 @@ _KIND_TEXTS = _KINDS.astype("U").astype(object)
 _AT_ONCE = 1 << 13  # results of a call: few enough to stay in the processor's cache
 
 # The type of each column, and the condition for a value: a good line, a position, an altitude.
-_OF_ROWS = {
-    "line": ("u8", ""), "moment": ("u8", "good"), "answer": ("O", ""), "address": ("O", "good"), "kind": ("O", "good"),
-    "lat": ("f8", "placed"), "lon": ("f8", "placed"), "feet": ("i8", "high"),
-}
-_OF_TABLE = {**_OF_ROWS, "lat_e7": ("i8", "placed"), "lon_e7": ("i8", "placed"), "fault": ("i8", "")}
-
-COLUMNS = tuple(_OF_ROWS)
-"""The columns of `squitter track --format=csv`, which rows and data frames have, in this order."""
+_OF_TABLE = dict(zip((*COLUMNS, "lat_e7", "lon_e7", "fault"), (
+    ("u8", ""), ("u8", "good"), ("O", ""), ("O", "good"), ("O", "good"), ("f8", "placed"), ("f8", "placed"),
+    ("i8", "high"), ("i8", "placed"), ("i8", "placed"), ("i8", ""),
+)))
 
 
 class _Table:

@@ -6,7 +6,7 @@ import operator
 import re
 from typing import Any, Container, Dict, Optional, Tuple, Type
 
-from squitter._made import Code, Stranger, Unit
+from squitter._made import HINTS, STRANGERS, Code, Stranger
 
 _MOST_SHOWN = 60  # characters
 
@@ -76,66 +76,19 @@ def packed(front: bytes) -> str:
 
 # ---- texts ----
 
-_FRAME_TEXT = "a frame text is 28 hexadecimal digits, bare or between * and ;"
-_ANGLE_TEXT = "an angle text is one to three digits, with an optional - before and decimals after, such as '-52.25'"
-
-# The hint for a text with each fault.
-_OF_TEXT: Dict[int, str] = {
-    Code.WRAP: _FRAME_TEXT, Code.SHORT: _FRAME_TEXT, Code.LENGTH: _FRAME_TEXT, Code.DIGIT: _FRAME_TEXT,
-    Code.NOT_A_NUMBER: _ANGLE_TEXT, Code.TOO_MANY_DECIMALS: "an angle text has at most 12 decimals",
-    Code.ANGLE_RANGE: "an angle is from -360 to 360 degrees",
-}
+# The faults of texts that no call takes.
+_OF_TEXT = frozenset((
+    Code.WRAP, Code.SHORT, Code.LENGTH, Code.DIGIT, Code.NOT_A_NUMBER, Code.TOO_MANY_DECIMALS, Code.ANGLE_RANGE))
 
 
 def hint_of_text(code: int, text: str) -> str:
     """Returns what is wanted in place of a text with this fault, or an empty text for the fault of a good text."""
-    return f"{_OF_TEXT[code]}, not {shown(text)}" if code in _OF_TEXT else ""
-
-
-# The hint for a fault that no value explains. web/squitter_values.js has the same words.
-_OF_CODE: Dict[int, str] = {
-    Code.NOT_DF17: "only extended squitters (DF17) are read; skip other frames",
-    Code.PARITY: "the frame is damaged; skip it",
-    Code.NOT_POSITION: "the message is no position; only kinds AIR and GROUND are",
-    Code.OTHER_ADDRESS: "give two frames of one aircraft",
-    Code.OTHER_KIND: "give two airborne or two surface positions",
-    Code.SAME_PARITY: "give an even and an odd frame",
-    Code.NO_SITE: "give the receiver position as the site",
-    Code.OUT_OF_RANGE: "use newer frames, or a nearer reference",
-    Code.ZONE_COUNTS: "the frames lie on two sides of a zone border; use newer ones",
-    Code.MOMENT_BACK: "timestamps must not decrease; sort the frames first, as an Order does",
-    Code.TABLE_FULL: "raise the limit",
-    Code.NO_LIMIT: "a limit is at least 1",
-    Code.NO_TRACKER: "it is closed",
-    Code.NO_ADDRESS: "an index is below the number of aircraft that are present",
-    Code.BAD_ENTRY: "the state was saved with other settings, or is damaged",
-}
+    return f"{HINTS[code]}, not {shown(text)}" if code in _OF_TEXT else ""
 
 
 def hint_of_code(code: int) -> str:
-    """Returns what to do after a fault that no value explains, or an empty text for other faults."""
-    return _OF_CODE.get(code, "")
-
-
-# What a source without frames is, in the words of `squitter feed`, and what a file without times is.
-STRANGERS: Dict[Stranger, str] = {
-    Stranger.SBS: "the input is SBS (BaseStation) text, which has no frames: read port 30005 or 30002",
-    Stranger.TAR: "the input is a tar archive: try tar -xOf FILE | squitter feed",
-    Stranger.PACKED: "the input is compressed: try gzip -dc FILE | squitter feed",
-    Stranger.UTF16: "the input is UTF-16: try iconv -f UTF-16 -t UTF-8 FILE | squitter feed",
-    Stranger.JSON: "the input is lines of JSON, which have no frames",
-    Stranger.NO_FRAME: "no frame is in the first 16384 bytes: try --format=beast, avr, csv or log"
-                       "; a table has the columns time (seconds), icao24 and rawmsg",
-}
-# What timestamps that are no milliseconds are, in the words of `squitter feed`.
-UNITS: Dict[Unit, str] = {
-    Unit.SECONDS: "the timestamps of this log seem to be seconds; they have to be milliseconds",
-    Unit.MICROSECONDS: "the timestamps seem to be microseconds; a log has milliseconds, and a table has seconds",
-    Unit.NANOSECONDS: "the timestamps seem to be nanoseconds; a log has milliseconds, and a table has seconds",
-    Unit.ALL_ZERO: "all frames of this file have the timestamp 0, as without times: old ones pair with new",
-    Unit.GPS: "the clock of this source seems to be GPS time (Radarcape): set it to 12 MHz, or read its port with "
-              "--arrival",
-}
+    """Returns what to do after a fault, or an empty text if only its call can tell."""
+    return HINTS.get(code, "")
 
 
 def hint_of_source(stranger: Optional[Stranger], counts: Any, front: bytes) -> str:

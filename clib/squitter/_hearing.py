@@ -299,13 +299,13 @@ def _form(kind: Type[_Form], format: Union[_Form, str]) -> _Form:
 class Log(_Listener):
     r"""A log in pieces, as the program ``squitter track`` decodes it.
 
-    The results of :meth:`take` and :meth:`finish`, joined, are the output of the program, byte for byte. After
-    :meth:`close`, or at the end of a ``with``, each call except :meth:`close` raises the Fault NO_TRACKER. Calls from
-    several threads wait for one another.
+    The results of :meth:`take_text` and :meth:`finish_text`, joined, are the output of the program, byte for byte.
+    After :meth:`close`, or at the end of a ``with``, each call except :meth:`close` raises the Fault NO_TRACKER. Calls
+    from several threads wait for one another.
 
     >>> with Log() as log:
-    ...     log.take(b"0 8D40621D58C386435CC412692AD6\n400 8D40621D58C3")
-    ...     log.take(b"82D690C8AC2863A7") + log.finish()
+    ...     log.take_text(b"0 8D40621D58C386435CC412692AD6\n400 8D40621D58C3")
+    ...     log.take_text(b"82D690C8AC2863A7") + log.finish_text()
     ...     log.tally
     b'1 waiting 40621D\n'
     b'2 fix 40621D 52.2572021 3.9193726\n'
@@ -330,14 +330,14 @@ class Log(_Listener):
         self._look_open()
         return self
 
-    def take(self, piece: Union[bytes, bytearray, memoryview]) -> bytes:
+    def take_text(self, piece: Union[bytes, bytearray, memoryview]) -> bytes:
         """Returns the output for the lines that end in this piece. An incomplete line at the end waits for the next
         piece. Raises the Fault LONG_LOG after 2**63 lines."""
         with self._lock:
             self._look_open()
             return self._texts("log_take_text", _bytes(piece))
 
-    def finish(self) -> bytes:
+    def finish_text(self) -> bytes:
         """Returns the output for the last line, if it has no line feed. It ends the line and not the log: what is taken
         next begins a new line, with the next number."""
         with self._lock:

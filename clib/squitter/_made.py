@@ -1,4 +1,4 @@
-# Made by clib/bindings from clib/squitter.h. Edit the header and run the script.
+# Made by clib/bindings from clib/squitter.h and clib/texts. Edit these and run the script.
 """libsquitter for ctypes and NumPy: constants, enums, structures, calls and records."""
 
 from __future__ import annotations
@@ -132,6 +132,12 @@ class Stranger(enum.IntEnum):
     UTF16 = 8  # text in UTF-16
     JSON = 9  # lines of JSON
     NO_FRAME = 10  # bytes without frames
+    SEMICOLONS = 11  # a table with semicolons between its columns
+    TABS = 12  # a table with tabs between its columns
+    NO_TIME = 13  # a table with a column `rawmsg`, and no column `time`, `mintime` or `timestamp`
+    NO_RAWMSG = 14  # a table with columns of the time and `icao24`, and no column `rawmsg`
+    NO_SECONDS = 15  # a table with frames in its third column, and no seconds in its first one
+    NO_NAMES = 16  # a table with frames in another column, and no names of its columns
 
 
 class Unit(enum.IntEnum):
@@ -272,7 +278,8 @@ class _Counts(ctypes.Structure):
     _fields_ = [
         ("found", ctypes.c_uint64), ("written", ctypes.c_uint64), ("mode_ac", ctypes.c_uint64),
         ("multilaterated", ctypes.c_uint64), ("receiver_ids", ctypes.c_uint64), ("damaged", ctypes.c_uint64),
-        ("aside", ctypes.c_uint64), ("formats", ctypes.c_uint64 * 25),
+        ("aside", ctypes.c_uint64), ("formats", ctypes.c_uint64 * 25), ("breaks", ctypes.c_uint64),
+        ("ahead", ctypes.c_uint64),
     ]
 
 
@@ -394,4 +401,101 @@ RECORDS: Dict[str, List[Tuple[str, str]]] = {
         ("odd", "u1"),
     ],
     "degrees_e7": [("lat", "i4"), ("lon", "i4")],
+}
+
+# ---- words ----
+
+COLUMNS = ("line", "moment", "answer", "address", "kind", "lat", "lon", "feet")
+
+# The word of each answer.
+WHATS: Dict[What, str] = {
+    What.FIX: "fix",
+    What.FOLLOWED: "followed",
+    What.WAITING: "waiting",
+    What.SPLIT: "split",
+    What.FAR: "far",
+    What.WITHOUT_SITE: "no site",
+    What.NO_PLACE: "no position",
+}
+
+# The word of each kind.
+KINDS: Dict[Kind, str] = {
+    Kind.OTHER: "other",
+    Kind.AIR: "air",
+    Kind.GROUND: "ground",
+}
+
+# The texts of faults for which the library has a text that is too narrow.
+FAULTS: Dict[int, str] = {
+    Code.NO_TRACKER: "no tracker, log, feed or order",
+}
+
+# What to do after a fault.
+HINTS: Dict[int, str] = {
+    Code.WRAP: "a frame text is 28 hexadecimal digits, bare or between * and ;",
+    Code.SHORT: "a frame text is 28 hexadecimal digits, bare or between * and ;",
+    Code.LENGTH: "a frame text is 28 hexadecimal digits, bare or between * and ;",
+    Code.DIGIT: "a frame text is 28 hexadecimal digits, bare or between * and ;",
+    Code.NOT_DF17: "only extended squitters (DF17) are read; skip other frames",
+    Code.PARITY: "the frame is damaged; skip it",
+    Code.NOT_POSITION: "the message is no position; only kinds AIR and GROUND are",
+    Code.OTHER_ADDRESS: "give two frames of one aircraft",
+    Code.OTHER_KIND: "give two airborne or two surface positions",
+    Code.SAME_PARITY: "give an even and an odd frame",
+    Code.NO_SITE: "give the receiver position as the site",
+    Code.OUT_OF_RANGE: "use newer frames, or a nearer reference",
+    Code.ZONE_COUNTS: "the frames lie on two sides of a zone border; use newer ones",
+    Code.BAD_POSITION: "a latitude is from -90 to 90 degrees, a longitude from -180 to 180, with at"
+        " most 12 decimals",
+    Code.BAD_FIELDS: "squitter.h has the range of each field",
+    Code.BAD_ANGLE: "an angle is from -360 to 360 degrees, with at most 12 decimals",
+    Code.BAD_LATITUDE: "a latitude is from -90 to 90 degrees, with at most 12 decimals",
+    Code.BAD_FEET: "feet are a multiple of 25 from -1000 to 50175",
+    Code.BAD_PARITY: "odd is 0 or 1",
+    Code.NOT_A_NUMBER: "an angle text is one to three digits, with an optional - before and "
+        "decimals after, such as '-52.25'",
+    Code.TOO_MANY_DECIMALS: "an angle text has at most 12 decimals",
+    Code.ANGLE_RANGE: "an angle is from -360 to 360 degrees",
+    Code.MOMENT_BACK: "timestamps must not decrease; sort the frames first, as an Order does",
+    Code.TABLE_FULL: "raise the limit",
+    Code.NO_LIMIT: "a limit is at least 1",
+    Code.NO_TRACKER: "it is closed",
+    Code.NO_ADDRESS: "an index is below the number of aircraft that are present",
+    Code.BAD_ENTRY: "the state was saved with other settings, or is damaged",
+}
+
+# What a source without frames is, in the words of ``squitter feed``.
+STRANGERS: Dict[Stranger, str] = {
+    Stranger.SBS: "the input is SBS (BaseStation) text, which has no frames: read port 30005 or "
+        "30002",
+    Stranger.TAR: "the input is a tar archive: try tar -xOf FILE | squitter feed",
+    Stranger.PACKED: "the input is compressed: try gzip -dc FILE | squitter feed",
+    Stranger.UTF16: "the input is UTF-16: try iconv -f UTF-16 -t UTF-8 FILE | squitter feed",
+    Stranger.JSON: "the input is lines of JSON, which have no frames",
+    Stranger.NO_FRAME: "no frame is in the first 16384 bytes: try --format=beast, avr, csv or log; "
+        "a table has the columns time (seconds), icao24 and rawmsg",
+    Stranger.SEMICOLONS: "the table has semicolons between its columns: they have to be commas, and"
+        " its decimal commas points",
+    Stranger.TABS: "the table has tabs between its columns: they have to be commas",
+    Stranger.NO_TIME: "the table has no column time (seconds): name its columns time, icao24 and "
+        "rawmsg in the first row",
+    Stranger.NO_RAWMSG: "the table has no column rawmsg, so it has no frames: take one that has "
+        "them",
+    Stranger.NO_SECONDS: "the first column of the table has no times in seconds, as 1700000000.25: "
+        "milliseconds and dates are not read",
+    Stranger.NO_NAMES: "the third column of the table has no frames: name its columns time "
+        "(seconds), icao24 and rawmsg in the first row",
+}
+
+# What timestamps that are no milliseconds are, in the words of ``squitter feed``.
+UNITS: Dict[Unit, str] = {
+    Unit.SECONDS: "the timestamps of this log seem to be seconds; they have to be milliseconds",
+    Unit.MICROSECONDS: "the timestamps seem to be microseconds; a log has milliseconds, and a table"
+        " has seconds",
+    Unit.NANOSECONDS: "the timestamps seem to be nanoseconds; a log has milliseconds, and a table "
+        "has seconds",
+    Unit.ALL_ZERO: "all frames of this file have the timestamp 0, as without times: old ones pair "
+        "with new",
+    Unit.GPS: "the clock of this source seems to be GPS time (Radarcape): set it to 12 MHz, or read"
+        " its port with --arrival",
 }

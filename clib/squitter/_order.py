@@ -54,7 +54,7 @@ class Order(_Lent):
         self, moments: Union[array.array[int], Iterable[int]], frames: Union[bytes, bytearray, memoryview],
     ) -> Tuple[array.array[int], bytes]:
         """Takes squitters: their timestamps (ms), and their frames, 14 bytes each, one after the other. Returns the
-        timestamps of those that are due, an array of type "Q", and their frames, as :meth:`Feed.take_frames` does.
+        timestamps of those that are due, an array of type "Q", and their frames, as :meth:`Feed.take` does.
         Raises ValueError, and takes nothing, unless there are as many timestamps as frames, and each is a whole number
         below 2**64. Raises MemoryError if there is no memory for more squitters."""
         came, data = _moments(moments), _bytes(frames, "frames are 14 bytes each, one after the other")

@@ -16,7 +16,8 @@ import numpy.typing as npt
 
 import squitter
 from squitter import FeedFormat
-from squitter._errors import UNITS, hint_of_source, shown
+from squitter._errors import hint_of_source, shown
+from squitter._made import UNITS
 
 Source = Union[str, "os.PathLike[str]", Any]
 """A file, by its name or open for bytes, or bytes."""
@@ -71,7 +72,7 @@ def squitters_of(data: npt.NDArray[np.uint8], source: Source) -> Tuple[Optional[
 def _format_of(data: npt.NDArray[np.uint8]) -> Optional[FeedFormat]:
     """Returns the format that the first bytes show. A short source may end without a line feed."""
     with squitter.Feed() as source:
-        source.take_frames(data[:_FIRST].tobytes() + b"\n" * (len(data) < _FIRST))
+        source.take(data[:_FIRST].tobytes() + b"\n" * (len(data) < _FIRST))
         return source.format
 
 
@@ -82,11 +83,11 @@ def _squitters(
     moments, frames = [], []
     with squitter.Feed(form, leap) as source:
         for at in range(0, len(data), _PIECE):
-            times, some = source.take_frames(data[at:at + _PIECE].tobytes())
+            times, some = source.take(data[at:at + _PIECE].tobytes())
             moments.append(np.frombuffer(times, np.uint64) if times else np.zeros(0, np.uint64))
             frames.append(some)
         found = source.format
-        times, some = source.finish_frames()
+        times, some = source.finish()
         stranger, counts = source.stranger, source.counts
     moments.append(np.array(times, np.uint64))
     squitters = np.concatenate(moments), np.frombuffer(b"".join([*frames, some]), np.uint8).reshape(-1, 14)

@@ -229,7 +229,7 @@ static void try_ends(void) {
   }
 }
 
-/* A frame that a lost connection cut off counts as damaged, and the next clock starts a leap later. */
+/* A frame that a lost connection cut off counts as damaged, and the next clock starts more than a leap later. */
 static void try_connections(void) {
   source part = {"", 0, 0, 0, 0};
   squitter_feed feed = {0, 0};
@@ -249,8 +249,34 @@ static void try_connections(void) {
   IS(squitter_feed_counts(&feed, &counts).code == 0 && counts.damaged == 1);
   IS(squitter_feed_take(&feed, part.bytes, part.length, 0, moments, 2, frames, 2, &done).code == 0);
   IS(done.written == 1);
-  IS(moments[0] == 11000);
+  IS(moments[0] == 11001);
   squitter_feed_free(&feed);
+}
+
+/* Times that go back are counted, and so is a live source that runs ahead of its arrivals by more than a leap. */
+static void try_jumps(void) {
+  static const char rows[] = "9000 " EVEN "\n9001 " EVEN "\n1 " EVEN "\n2 " EVEN "\n3 " EVEN "\n";
+  squitter_feed feed = {0, 0};
+  squitter_done done;
+  squitter_counts counts;
+  uint64_t moments[6];
+  frame_bytes frames[6];
+  begin(&feed, SQUITTER_FEED_LOG, 0);
+  IS(squitter_feed_take(&feed, rows, sizeof rows - 1, 0, moments, 6, frames, 6, &done).code == 0 && done.written == 5);
+  IS(moments[1] == 9001 && moments[2] == 9002 + LEAP && moments[4] == 9004 + LEAP);
+  IS(squitter_feed_counts(&feed, &counts).code == 0 && counts.breaks == 1 && counts.ahead == 0 && counts.found == 5);
+  squitter_feed_free(&feed);
+  for (int by = 0; by < 2; by++) {
+    source part = {"", 0, 0, 0, 0};
+    begin(&feed, SQUITTER_FEED_BEAST, SQUITTER_FEED_LIVE);
+    add_message(&part, '3', 12000, even, 14);
+    add_message(&part, '3', 12000 * (uint64_t)(1 + LEAP), even, 14);
+    add_message(&part, '3', 12000 * (uint64_t)(1 + LEAP + by), even, 14);
+    IS(squitter_feed_take(&feed, part.bytes, part.length, 77, moments, 6, frames, 6, &done).code == 0);
+    IS(done.written == 3 && moments[2] == 77 + LEAP + (uint64_t)by);
+    IS(squitter_feed_counts(&feed, &counts).code == 0 && counts.breaks == 0 && counts.ahead == (uint64_t)by);
+    squitter_feed_free(&feed);
+  }
 }
 
 /* A frame without a clock has its arrival as timestamp if the source is live; a recorded source ignores arrivals. */
@@ -408,12 +434,21 @@ static void try_formats(void) {
   IS(format_of("\xff\xfe" "7\0", 4, 1) == SQUITTER_FEED_UTF16);
   IS(format_of("{}\n", 3, 1) == SQUITTER_FEED_JSON && format_of("2040\n", 5, 0) == SQUITTER_FEED_AUTO);
   IS(format_of("2040\n", 5, 1) == SQUITTER_FEED_NO_FRAME);
+  IS(format_of("rawmsg;time\n", 12, 0) == SQUITTER_FEED_AUTO);
+  IS(format_of("rawmsg;time\n", 12, 1) == SQUITTER_FEED_SEMICOLONS);
+  IS(format_of("rawmsg\ttime\n", 12, 1) == SQUITTER_FEED_TABS);
+  IS(format_of("rawmsg,icao24\n", 14, 1) == SQUITTER_FEED_NO_TIME);
+  IS(format_of("time,icao24\n", 12, 1) == SQUITTER_FEED_NO_RAWMSG);
+  IS(format_of("5 s,,02E197B00179C3\n", 20, 1) == SQUITTER_FEED_NO_SECONDS);
+  IS(format_of("5,02E197B00179C3\n", 17, 1) == SQUITTER_FEED_NO_NAMES);
+  IS(format_of("\r*02E197B00179C3;\n", 17, 0) == SQUITTER_FEED_AUTO);
+  IS(format_of("\r*02E197B00179C3;\n", 18, 0) == SQUITTER_FEED_AVR);
 }
 
 static void try_none(squitter_feed *feed) {
   squitter_done done = {7, 7};
   uint32_t number = 7;
-  squitter_counts counts = {7, 0, 0, 0, 0, 0, 0, {0}};
+  squitter_counts counts = {7, 0, 0, 0, 0, 0, 0, {0}, 0, 0};
   uint64_t moments[1] = {7};
   frame_bytes frames[1] = {{7}};
   char text[50] = "7";
@@ -466,6 +501,7 @@ int main(void) {
   try_cuts();
   try_ends();
   try_connections();
+  try_jumps();
   try_arrivals();
   try_flags();
   try_other_formats();

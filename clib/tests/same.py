@@ -239,7 +239,10 @@ def check_enums():
         (feeds, {"Beast": "FEED_BEAST", "Avr": "FEED_AVR", "Csv": "FEED_CSV", "Log": "FEED_LOG", "None": "FEED_AUTO"}),
         (answers, {"Lines": "LINES", "Rows Csv": "CSV", "Rows Json": "JSON"}),
         (strangers, {"Sbs": "FEED_SBS", "Tar": "FEED_TAR", "Packed": "FEED_PACKED", "Utf16": "FEED_UTF16",
-                     "Json": "FEED_JSON", "NoFrame": "FEED_NO_FRAME"}),
+                     "Json": "FEED_JSON", "NoFrame": "FEED_NO_FRAME", "Semicolons": "FEED_SEMICOLONS",
+                     "Tabs": "FEED_TABS", "NoTime": "FEED_NO_TIME", "NoRawmsg": "FEED_NO_RAWMSG",
+                     "NoSeconds": "FEED_NO_SECONDS",
+                     "NoNames": "FEED_NO_NAMES"}),
     )
     blocks = [{name: int(number) for name, number in re.findall(r"SQUITTER_(\w+) = (\d+)", block)}
               for block in re.findall(r"^enum \{\n(.*?)^\};", header(), re.M | re.S)]

@@ -35,7 +35,9 @@ def loaded() -> Any:
 bindings = loaded()
 with open(os.path.join(CLIB, "squitter.h"), encoding="utf-8") as header_file:
     HEADER = header_file.read()
-MADE: Dict[str, str] = bindings.made(HEADER)
+with open(os.path.join(CLIB, "texts"), encoding="utf-8") as texts_file:
+    TEXTS = texts_file.read()
+MADE: Dict[str, str] = bindings.made(HEADER, TEXTS)
 
 
 def edited(old: str, new: str) -> str:
@@ -160,7 +162,7 @@ class OfTheHeader(unittest.TestCase):
 
     def test_lines(self) -> None:
         for path, text in MADE.items():
-            self.assertIn("Made by clib/bindings from clib/squitter.h", text.partition("\n")[0], path)
+            self.assertIn("Made by clib/bindings from clib/squitter.h and clib/texts", text.partition("\n")[0], path)
             self.assertEqual([line for line in text.splitlines() if len(line) > 120 or line != line.rstrip()], [], path)
 
 
@@ -168,7 +170,7 @@ class OfAnEdit(unittest.TestCase):
     """What the script makes of a header with an edit: something else, or a refusal with the line."""
 
     def changed(self, old: str, new: str, wanted: Dict[str, List[str]]) -> None:
-        made = bindings.made(edited(old, new))
+        made = bindings.made(edited(old, new), TEXTS)
         for path, parts in wanted.items():
             for part in parts:
                 self.assertIn(part, made[path])
@@ -178,7 +180,7 @@ class OfAnEdit(unittest.TestCase):
         """The edit is refused at the line of this part of it, for this reason."""
         text = edited(old, new)
         with self.assertRaises(bindings.Refused) as caught:
-            bindings.made(text)
+            bindings.made(text, TEXTS)
         self.assertIn(f"squitter.h:{line_of(text, part)}: ", str(caught.exception))
         self.assertRegex(str(caught.exception), why)
 
@@ -255,6 +257,69 @@ class OfAnEdit(unittest.TestCase):
             self.refused(version, new, new, why)
 
 
+class OfTheWords(unittest.TestCase):
+    """What the script makes of clib/texts, and of an edit of it."""
+
+    def test_words(self) -> None:
+        names = module_of(MADE[PYTHON])
+        what, code, unit = names["What"], names["Code"], names["Unit"]
+        self.assertEqual(names["WHATS"][what.WITHOUT_SITE], "no site")
+        self.assertEqual(list(names["WHATS"]), list(what))
+        self.assertEqual(list(names["KINDS"].values()), ["other", "air", "ground"])
+        self.assertEqual(names["COLUMNS"], ("line", "moment", "answer", "address", "kind", "lat", "lon", "feet"))
+        self.assertEqual(names["FAULTS"], {code.NO_TRACKER: "no tracker, log, feed or order"})
+        self.assertEqual(names["HINTS"][code.NOT_A_NUMBER], "an angle text is one to three digits, with an optional - "
+                         "before and decimals after, such as '-52.25'")
+        self.assertEqual(list(names["STRANGERS"]), list(names["Stranger"]))
+        gps = "the clock of this source seems to be GPS time (Radarcape): set it to 12 MHz"
+        self.assertEqual(names["UNITS"][unit.GPS], f"{gps}, or read its port with --arrival")
+        self.assertNotIn(unit.MILLISECONDS, names["UNITS"])
+        self.assertIn(f'  [Unit.GPS]: "T{gps[1:]}.",\n', MADE["web/texts.js"])
+        heard = '["refused", "fix", "followed", "waiting", "split", "far", "no site", "no position"]'
+        self.assertIn(f"const HEARD = {heard};", MADE["web/texts.js"])
+        self.assertIn("""  [Code.NOT_A_NUMBER]: "an angle text is one to three digits, with an optional - before and "
+    + "decimals after, such as '-52.25'",
+""", MADE[SCRIPT_FILE])
+        self.assertIn('  [Code.NO_TRACKER]: "no tracker, log, feed or order",\n', MADE[SCRIPT_FILE])
+        answers = module_of(MADE["feeds/squitter_texts.py"])
+        self.assertEqual((answers["COLUMNS"], answers["PLACES"], answers["KINDS"]),
+                         (list(names["COLUMNS"]), ("fix", "followed"), ("", "air", "ground")))
+        for text in ("waiting", "no position", "bad length 27", "parity 00AF07", "moment back 0", "table full"):
+            self.assertTrue(any(re.fullmatch(one, text) for one in answers["OTHERS"]), text)
+        for text in ("fix", "bad length", "bad length ", "bad length N", "parity 00AF0", "parity 00af07",
+                     "moment back", "table full "):
+            self.assertFalse(any(re.fullmatch(one, text) for one in answers["OTHERS"]), text)
+
+    def test_texts_of_the_library(self) -> None:
+        """The answers for refused lines are the texts of the library, with any number."""
+        sys.path.insert(0, CLIB)
+        import squitter
+        for name, words in re.findall(r"^Refused\.(\w+): (.*)$", TEXTS, re.M):
+            for number in (0, 10, 0xABCDEF):
+                text = squitter.fault_text(squitter.Code[name], number)
+                self.assertEqual(text, words.replace("XXXXXX", f"{number:06X}").replace(" N", f" {number}"))
+
+    def test_refusals(self) -> None:
+        for old, new, why in (
+            ("What.FAR: far\n", "", r"^texts: What\.FAR has no words$"),
+            ("Kind.AIR: air\n", "", r"^texts: Kind\.AIR has no words$"),
+            ("Stranger.JSON: the input is lines of JSON, which have no frames\n", "", r"^texts: Stranger\.JSON has no"),
+            ("Stranger.TAR: ", "Stranger.TAPE: ", "new member of squitter.h"),
+            ("What.FAR: far\n", "What.FAR: far\nWhat.FAR: far\n", "new member of squitter.h"),
+            ("What.FAR: far\n", "What.FAR: far \n", "new member"), ("What.FAR: far\n", "What.FAR:\n", "new member"),
+            ("What.FAR: far\n", "What.FAR: f\u00e4r\n", "new member"), ("What.FAR", "Why.FAR", "new member"),
+            ("Columns: ", "Columns.LINE: ", "new member"), ("Columns: ", "Columns: x\nColumns: ", "new member"),
+            ("# The answers for lines", "The answers for lines", "nor a comment: The answers for lines"),
+        ):
+            assert TEXTS.count(old) == 1, old
+            with self.assertRaises(bindings.Refused) as caught:
+                bindings.made(HEADER, TEXTS.replace(old, new))
+            self.assertRegex(str(caught.exception), why)
+        with self.assertRaises(bindings.Refused) as caught:
+            bindings.made(HEADER, "# one\n\nWhy: x\n")
+        self.assertRegex(str(caught.exception), "^texts:3: ")
+
+
 class OfTheCommand(unittest.TestCase):
     """The command in a folder of its own."""
 
@@ -265,9 +330,10 @@ class OfTheCommand(unittest.TestCase):
         folder = tempfile.TemporaryDirectory()
         self.addCleanup(folder.cleanup)
         self.top = folder.name
-        for path in ("clib/squitter", "web"):
+        for path in ("clib/squitter", "web", "feeds"):
             os.makedirs(f"{self.top}/{path}")
         shutil.copy(SCRIPT, f"{self.top}/clib/bindings")
+        shutil.copy(os.path.join(CLIB, "texts"), f"{self.top}/clib/texts")
         self.put(HEADER)
 
     def put(self, text: str) -> None:

@@ -214,9 +214,9 @@ class Errors(unittest.TestCase):
             ("a moment is", lambda moment: Tracker().hear_many([moment], bytes.fromhex(ODD))),
             ("a moment is", lambda moment: order.take([moment], FRAME)),
             ("a leap is", lambda leap: Feed("avr", leap)), ("late is", lambda late: Feed("avr", late=late)),
+            ("an arrival is", lambda arrival: feed.take_text(b"", arrival)),
             ("an arrival is", lambda arrival: feed.take(b"", arrival)),
-            ("an arrival is", lambda arrival: feed.take_frames(b"", arrival)),
-            ("an arrival is", feed.finish), ("an arrival is", feed.finish_frames), ("a delay is", Order),
+            ("an arrival is", feed.finish_text), ("an arrival is", feed.finish), ("a delay is", Order),
         ):
             for given in (0, True, LAST):
                 call(given)
@@ -251,8 +251,8 @@ class Errors(unittest.TestCase):
 
     def test_pieces(self):
         of_text = "; encode() makes bytes of a str, and 'rb' opens a file for bytes"
-        for wanted, call in (("a piece is bytes", Log().take), ("a piece is bytes", Feed("log").take),
-                             ("a piece is bytes", Feed("log").take_frames),
+        for wanted, call in (("a piece is bytes", Log().take_text), ("a piece is bytes", Feed("log").take_text),
+                             ("a piece is bytes", Feed("log").take),
                              (FRAMES[:-6], lambda piece: Order(5).take([5], piece))):
             for given in (None, 5, [5]):
                 self.told(TypeError, f"{wanted}, not {given}", call, given)
@@ -272,7 +272,7 @@ class Errors(unittest.TestCase):
             for form in enum:
                 for given in (form, form.name.lower(), int(form)):
                     with kind(given) as one:
-                        one.take(b"x\n")
+                        one.take_text(b"x\n")
 
     def test_indices(self):
         tracker = Tracker()
@@ -288,15 +288,15 @@ class Errors(unittest.TestCase):
             (Tracker, "tracker", (len, lambda it: it.hear(5, ODD), lambda it: it.hear_many([], b""),
                                   lambda it: it.last)),
             (Contact, "tracker", (lambda it: it.newest,)),
-            (Log, "log", (lambda it: it.take(b""), lambda it: it.finish(), lambda it: it.tally)),
-            (Feed, "feed", (lambda it: it.take(b""), lambda it: it.finish(), lambda it: it.counts,
+            (Log, "log", (lambda it: it.take_text(b""), lambda it: it.finish_text(), lambda it: it.tally)),
+            (Feed, "feed", (lambda it: it.take_text(b""), lambda it: it.finish_text(), lambda it: it.counts,
                             lambda it: it.format)),
             (lambda: Order(5), "order", (lambda it: it.take([], b""), lambda it: it.flush(), lambda it: it.held)),
         ):
             one = kind()
             one.close()
             for call in calls:
-                self.told(Fault, f"no tracker: the {name} is closed", call, one)
+                self.told(Fault, f"no tracker, log, feed or order: the {name} is closed", call, one)
 
     def test_shown(self):
         """Values are shown in one line, cut, also long ones and ones without a repr."""

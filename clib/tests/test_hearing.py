@@ -87,7 +87,8 @@ class Hearing(Refusing):
     def test_log_after_finish(self):
         """After its end a log goes on with a new line, the next number, and what it has heard."""
         log = squitter.Log()
-        told = log.take(f"5 {ODD}\nx".encode()), log.finish(), log.finish(), log.take(f"400 {EVEN}\n".encode())
+        told = (log.take_text(f"5 {ODD}\nx".encode()), log.finish_text(), log.finish_text(),
+                log.take_text(f"400 {EVEN}\n".encode()))
         self.assertEqual(told, (b"1 waiting 40621D\n", b"2 bad moment\n", b"", b"3 fix 40621D 52.2572021 3.9193726\n"))
         self.assertEqual(log.tally, (2, 1))
 
@@ -95,15 +96,15 @@ class Hearing(Refusing):
         """A signal handler may use a log, a feed or an order in the middle of its call: each result comes once, to the
         call that gave its input."""
         log = Log()
-        outer, inner = interrupted(lambda: log.take(b"x\n" * 5), lambda: log.take(b"y\n"))
+        outer, inner = interrupted(lambda: log.take_text(b"x\n" * 5), lambda: log.take_text(b"y\n"))
         numbers = [int(line.split()[0]) for line in (outer + b"".join(inner)).splitlines()]
         self.assertEqual(([*map(len, inner)].count(0), outer.count(b"\n")), (0, 5))
         self.assertEqual(sorted(numbers), [*range(1, len(inner) + 6)])
         for texts in (True, False):
             feed = squitter.Feed("log")
-            take = feed.take if texts else feed.take_frames
+            take = feed.take_text if texts else feed.take
             ours, theirs = (f"5 {frame}\n".encode() for frame in (EVEN, ODD))
-            feed.take(ours * 2)  # (the first row waits for the second)
+            feed.take_text(ours * 2)  # (the first row waits for the second)
             outer, inner = interrupted(lambda: take(ours * 5), lambda: take(theirs))
             if not texts:
                 outer, *inner = (b"".join(b"%d %s\n" % (moment, frames[14 * at:14 * at + 14].hex().upper().encode())
@@ -193,7 +194,7 @@ class Hearing(Refusing):
                 for tracker in (kind(), kind(squitter.WINDOW), kind(window=squitter.WINDOW)):
                     tracker.hear(5, ODD)
                     self.assertEqual(tracker.hear(5 + between, EVEN).what, what)
-            lines = Log().take(f"5 {ODD}\n{5 + between} {EVEN}\n".encode()).splitlines()
+            lines = Log().take_text(f"5 {ODD}\n{5 + between} {EVEN}\n".encode()).splitlines()
             self.assertEqual(lines[1].split()[1].decode(), what.name.lower())
 
     def test_tracker(self):
@@ -329,18 +330,18 @@ class Hearing(Refusing):
         for size in (1, 2, 7, 64, len(LINES)):
             log, told = Log(10_000, SITE), b""
             for at in range(0, len(LINES), size):
-                told += log.take(LINES[at:at + size])
+                told += log.take_text(LINES[at:at + size])
                 self.assertEqual(told.count(b"\n"), ANSWERED[LINES[:at + size].count(b"\n")])
-            self.assertEqual(told + log.finish(), ANSWERS)
+            self.assertEqual(told + log.finish_text(), ANSWERS)
             self.assertEqual(log.tally, (4, 3))
-            self.assertEqual(log.finish(), b"")
+            self.assertEqual(log.finish_text(), b"")
         for kind in (bytearray, memoryview):
             log = Log(10_000, SITE)
-            self.assertEqual(log.take(kind(LINES)) + log.finish(), ANSWERS)
-        self.assertEqual((Log().take(b""), Log().finish()), (b"", b""))
+            self.assertEqual(log.take_text(kind(LINES)) + log.finish_text(), ANSWERS)
+        self.assertEqual((Log().take_text(b""), Log().finish_text()), (b"", b""))
         for wrong in ("5 x", 5, None, [53]):
             with self.assertRaises(TypeError):
-                Log().take(wrong)
+                Log().take_text(wrong)
 
     def test_formats(self):
         """Each format prints what the worked cases of `squitter track` print. The header of CSV comes once."""
@@ -350,13 +351,13 @@ class Hearing(Refusing):
             if words:
                 worked[words[1]] = words[3].encode().splitlines(True), case.printed.encode().splitlines(True)
                 log = Log(int(words[2] or 10_000), format=words[1])
-                self.assertEqual(log.take(words[3].encode()) + log.finish(), case.printed.encode())
+                self.assertEqual(log.take_text(words[3].encode()) + log.finish_text(), case.printed.encode())
         self.assertEqual({"lines", *worked}, {form.name.lower() for form in Format})
         lines, (header, first, *rows) = worked["csv"]
         for form in ("csv", Format.CSV, 1):
             log = Log(format=form)
-            self.assertEqual([log.take(line) for line in lines], [header + first, *rows])
-        self.assertEqual(Log(format="csv").finish(), header)
+            self.assertEqual([log.take_text(line) for line in lines], [header + first, *rows])
+        self.assertEqual(Log(format="csv").finish_text(), header)
         for wrong in ("CSV", "lines ", "", len(Format), -1, None):
             with self.assertRaises(ValueError):
                 Log(format=wrong)
@@ -371,11 +372,11 @@ class Hearing(Refusing):
             signal.raise_signal(signal.SIGALRM)
             return texts(*words)
 
-        was = signal.signal(signal.SIGALRM, lambda *_: told.append(log.take(b"\nx\n")))
+        was = signal.signal(signal.SIGALRM, lambda *_: told.append(log.take_text(b"\nx\n")))
         self.addCleanup(signal.signal, signal.SIGALRM, was)
         self.addCleanup(setattr, squitter._hearing.ctypes, "string_at", texts)
         squitter._hearing.ctypes.string_at = interrupted
-        outer = log.take(f"5 {ODD}\n".encode() * count)
+        outer = log.take_text(f"5 {ODD}\n".encode() * count)
         # The handler's bytes come in the middle of a line.
         (inner,) = told
         self.assertTrue(inner.endswith(b" bad moment\n"), inner)
@@ -387,21 +388,21 @@ class Hearing(Refusing):
         line, log = f"5 {ODD}\n".encode(), Log()
         for count in (1, 3_500, 3_641, 3_642, 10_000):
             log = Log()
-            told = log.take(line * count)
+            told = log.take_text(line * count)
             self.assertEqual(told, b"".join(b"%d waiting 40621D\n" % (number + 1) for number in range(count)))
             self.assertEqual(log.tally, (count, 0))
 
     def test_closed_log(self):
         log = Log()
-        log.take(LINES[:40])
+        log.take_text(LINES[:40])
         for _ in range(2):
             log.close()
-            for call in (lambda it: it.take(b""), lambda it: it.take(3), lambda it: it.finish(), lambda it: it.tally,
-                         lambda it: it.__enter__()):
+            for call in (lambda it: it.take_text(b""), lambda it: it.take_text(3), lambda it: it.finish_text(),
+                         lambda it: it.tally, lambda it: it.__enter__()):
                 self.refused(Code.NO_TRACKER, call, log)
         with Log() as log:
-            self.assertEqual(log.take(b"x\n"), b"1 bad moment\n")
-        self.refused(Code.NO_TRACKER, log.finish)
+            self.assertEqual(log.take_text(b"x\n"), b"1 bad moment\n")
+        self.refused(Code.NO_TRACKER, log.finish_text)
         for taken in (copy.copy, copy.deepcopy, pickle.dumps):
             with self.assertRaises(TypeError):
                 taken(Log())

@@ -104,12 +104,12 @@ class Recordings(unittest.TestCase):
                 self.assertEqual(batch.dataframe(data)["moment"].tolist(), MOMENTS)
 
     def test_leap(self) -> None:
-        """Gaps up to the leap, and up to a day, are kept. Longer ones are jumps of the clock."""
-        day = 86_400_000
-        moments = [1, day + 101, 2 * day + 202]
-        data = b"".join(f"@{12_000 * moment:012X}{ODD};".encode() for moment in moments)
-        for leap, count in ((0, 1), (day + 99, 1), (day + 100, 2), (day + 101, 3)):
-            self.assertEqual(batch.feed(data + b"\n", "avr", leap)[0].tolist(), moments[:count])
+        """Gaps beyond the leap are kept, unless another frame contradicts them."""
+        cases = {4999: [1, 2], 5000: [1, 5001], 5001: [1, 5001]}
+        for moments, told in (((1, 5001, 2), cases), ((1, 5001, 10_001), dict.fromkeys(cases, [1, 5001, 10_001]))):
+            data = b"".join(f"@{12_000 * moment:012X}{ODD};".encode() for moment in moments) + b"\n"
+            for leap in cases:
+                self.assertEqual(batch.feed(data, "avr", leap)[0].tolist(), told[leap], (moments, leap))
 
     def test_without_times(self) -> None:
         """Frames without times get the timestamp 0, as `squitter feed` gives them to a file, and a warning says so. A
@@ -186,6 +186,12 @@ class Recordings(unittest.TestCase):
             (b"MSG,3,,,40621D,,,,,,,38000,,,52.2,3.9\n", None, "the input is SBS (BaseStation) text, which has no "
              "frames: read port 30005 or 30002"),
             (b'{"now": 1}\n', None, "the input is lines of JSON, which have no frames"),
+            (f"1,5;;{EVEN}\n".encode(), None, "the table has semicolons between its columns: they have "
+             "to be commas, and its decimal commas points"),
+            (b"time,icao24,lat\n5,40621D,52\n", None, "the table has no column rawmsg, so it has no frames: take one "
+             "that has them"),
+            (f"1700000000000,40621d,{EVEN}\n".encode(), None, "the first column of the table has no times in seconds, "
+             "as 1700000000.25: milliseconds and dates are not read"),
             ("5 x\n".encode("utf-16"), None, "the input is UTF-16: try iconv -f UTF-16 -t UTF-8 FILE | squitter feed"),
         ):
             calls = [lambda source: batch.feed(source, form)]

@@ -3,6 +3,7 @@
 test_hearing.py has contacts, trackers and logs."""
 import array
 import copy
+import dataclasses
 import doctest
 import os
 import pickle
@@ -269,7 +270,7 @@ class Calls(Refusing):
                     self.assertEqual(given.hear(moment, frame), answer)
                     self.assertEqual(copy.copy(given).hear(moment, frame), copy.copy(wanted).hear(moment, frame))
             lines = "".join(f"{moment} {frame}\n" for moment, frame in heard).encode()
-            self.assertEqual(Log(site=floats).take(lines), Log(site=texts).take(lines))
+            self.assertEqual(Log(site=floats).take_text(lines), Log(site=texts).take_text(lines))
             pairs = [squitter.pair_many(*map(bytes.fromhex, (GROUND_OLDER, GROUND_NEWER)), site)[0]
                      for site in (floats, texts)]
             self.assertEqual(*(pair.code if isinstance(pair, Fault) else pair for pair in pairs))
@@ -435,10 +436,23 @@ class Calls(Refusing):
         self.refused(Code.BAD_FEET, squitter.field_of_feet, 1 << 40)
         self.refused(Code.BAD_FIELDS, squitter.feet_of_field, 19, 0)
 
+    def test_classes_of_heads(self):
+        """Heads have defaults, are equal by their fields, cannot be changed, and are pickled by their public names."""
+        for head, fields in ((AirHead(7), (7, 0, 5, 11, 0, 0, 0, 0)), (GroundHead(7), (7, 4, 7, 0, 0, 0, 0, 0))):
+            self.assertEqual(dataclasses.astuple(head), fields)
+            self.assertEqual(pickle.loads(pickle.dumps(head)), head)
+            self.assertEqual((type(head).__module__, type(head)), ("squitter", getattr(squitter, type(head).__name__)))
+            with self.assertRaises(dataclasses.FrozenInstanceError):
+                head.ca = 1
+        self.assertEqual([name for name in squitter.__all__ if not hasattr(squitter, name)], [])
+        with self.assertRaisesRegex(AttributeError, "module 'squitter' has no attribute 'nonesuch'"):
+            squitter.nonesuch
+
     def test_faults(self):
         self.assertEqual(squitter.fault_text(Code.ZONE_COUNTS, 45, 44), "zone counts 45 44")
         self.assertEqual(squitter.fault_text(Code.PARITY, 10), "parity 00000A")
         self.assertEqual(squitter.fault_text(77), "unknown fault")
+        self.assertEqual(squitter.fault_text(Code.NO_TRACKER, 5, 6), "no tracker, log, feed or order")
         texts = [squitter.fault_text(code) for code in Code]
         self.assertNotIn("unknown fault", texts)
         for code, first, second in ((1 << 32, 0, 0), (-1, 0, 0), (6, 1 << 64, 0), (16, 45, 1 << 32)):

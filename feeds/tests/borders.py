@@ -34,37 +34,40 @@ def longest_line() -> None:
 
 
 def jitter() -> None:
-    """A clock that goes back by a second is late, and one that goes back by more has started again: then two frames are
-    dropped, and the third is a leap later."""
+    """A clock that goes back by a second is late, and one that goes back by more has started again: three frames are a
+    leap and 1 ms later."""
     def tried(back: int, **options: object) -> List[int]:
         return of_file(*(clocked(AIR_EVEN, 12_000 * k) for k in [50_000] + [50_000 - back] * 3), **options)
 
     for back in (999, 1000):
         same(tried(back), [50_000] * 4, back)
     for back in (1001, 1500):
-        same(tried(back), [50_000, 650_000], back)
+        same(tried(back), [50_000] + [650_001] * 3, back)
     for back in (1499, 1500):
         same(tried(back, reorder=1500), [50_000 - back] * 3 + [50_000], back, "with --reorder")
-    same(tried(1501, reorder=1500), [50_000, 650_000], "with --reorder")
+    same(tried(1501, reorder=1500), [50_000] + [650_001] * 3, "with --reorder")
 
 
 def leap() -> None:
     """A clock that goes ahead by the leap does not jump; by more it does, unless the arrivals do too, to the
-    millisecond. In a file, a day is no jump either."""
-    day = 86_400_000
-    for leap, least in ((1000, day), (day + 1000, day + 1000)):
-        for ahead in (least - 1, least, least + 1):
-            ticks = [5000, 5000 + ahead, 5001 + ahead, 5002 + ahead]
-            got = of_file(*(clocked(AIR_EVEN, 12_000 * k) for k in ticks), leap=leap)
-            same(got, ticks if ahead <= least else [5000, 5002 + ahead], ahead)
+    millisecond. Frames that jump wait for the third, and keep their times."""
+    def at_once(pieces: List[Tuple[bytes, int]], live: bool) -> List[int]:
+        feed = feed_of(live, leap=1000)
+        return [feed.hear(piece, arrival).count(b"\n") for piece, arrival in pieces]
+
+    for ahead in (999, 1000, 1001):
+        millis = [5000, 5000 + ahead, 5001 + ahead, 5002 + ahead]
+        pieces = [clocked(AIR_EVEN, 12_000 * k) for k in millis]
+        same(at_once([(piece, 0) for piece in pieces], False), [1, 1, 1, 1] if ahead <= 1000 else [1, 0, 0, 3], ahead)
+        same(of_file(*pieces, leap=1000), millis, ahead)
     for away in (-1001, -1000, -999, 999, 1000, 1001):
-        pieces = [(clocked(AIR_EVEN, 12_000 * 5000), 0)]
-        pieces += [(clocked(AIR_EVEN, 12_000 * (25_000 + k)), 20_000 + k - away) for k in range(3)]
-        same(len(fed(pieces, live=True, leap=1000)[0]), 4 if abs(away) <= 1000 else 2, away)
+        heard = [(clocked(AIR_EVEN, 12_000 * 5000), 0)]
+        heard += [(clocked(AIR_EVEN, 12_000 * (25_000 + k)), 20_000 + k - away) for k in range(3)]
+        same(at_once(heard, True), [1, 1, 1, 1] if abs(away) <= 1000 else [1, 0, 0, 3], away)
 
 
 def agreeing() -> None:
-    """Rows that leap wait until the third in turn that is at or after the one before. The first row waits for
+    """Two rows that leap wait for a third that follows, which waits in turn if it is not near. The first row waits for
     another."""
     def aside(*seconds: int) -> List[int]:
         feed = feed_of(False)
@@ -73,8 +76,8 @@ def agreeing() -> None:
     same(aside(0, 1, 2, 9000, 9001, 9002), [0, 2, 1, 0, 0, 3])
     same(aside(0, 1, 2, 9000, 9000, 9000), [0, 2, 1, 0, 0, 3])
     same(aside(0, 1, 2, 9000, 9001, 3, 9002), [0, 2, 1, 0, 0, 1, 0])
-    same(aside(0, 1, 2, 9000, 19_000, 29_000, 39_000, 49_000), [0, 2, 1, 0, 0, 3, 0, 0])
-    same(aside(0, 1, 2, 9000, 39_000, 29_000, 19_000, 49_000, 59_000), [0, 2, 1, 0, 0, 0, 0, 0, 3])
+    same(aside(0, 1, 2, 9000, 19_000, 29_000, 39_000, 49_000), [0, 2, 1, 0, 0, 2, 0, 2])
+    same(aside(0, 1, 2, 9000, 39_000, 29_000, 19_000, 49_000, 59_000), [0, 2, 1, 0, 0, 0, 0, 0, 2])
 
 
 def counted() -> None:
@@ -126,13 +129,14 @@ def clock_turn() -> None:
 
 
 def moments_of_arrival() -> None:
-    """A leap in a file begins the clock anew a leap later, and live as much later as the arrivals are: with the third
-    frame that agrees."""
+    """A clock that goes back begins anew, in a file a leap and 1 ms later, and live by the arrival of the third
+    frame. If it would have gone back to before 0, what is between its first frames is lost."""
     ticks = [900_000, 900_001, 5, 6, 7]
     got = of_file(*(clocked(AIR_EVEN, 12_000 * k) for k in ticks), leap=1000)
-    same(got, [900_000, 900_001, 901_001])
-    pieces = [(clocked(AIR_EVEN, 12_000 * k), arrival) for k, arrival in zip(ticks, (100, 101, 5000, 5001, 5002))]
-    same(moments(pieces, live=True), [100, 101, 5002])
+    same(got, [900_000, 900_001, 901_002, 901_003, 901_004])
+    for now, later in ((10_000, (5002, 5002, 5002)), (10**9, (5002, 5003, 5004))):
+        pieces = [(clocked(AIR_EVEN, 12_000 * k), now + at) for k, at in zip(ticks, (100, 101, 5000, 5001, 5002))]
+        same([moment - now for moment in moments(pieces, live=True)], [100, 101, *later])
     same(moments([(b"*%s;\n" % E, 5000), (clocked(AIR_EVEN, SECOND), 7000)], live=True), [5000, 7000])
 
 

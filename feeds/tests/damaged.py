@@ -13,6 +13,7 @@ import os
 import random
 import re
 import sys
+from collections import Counter
 from typing import Callable, Dict, Iterator, List, Tuple
 
 if __name__ == "__main__":
@@ -249,9 +250,11 @@ def tried(form: str, count: int) -> Dict[str, int]:
             # (an escape at the very end may begin a message, and is no damage)
             lone = read_by_model(form, data)[1] - damaged
             expect(lone == 0 or lone == 1 and data.endswith(b"\x1a"), number, "damages differ by", lone, data)
-        # Each frame is printed, or set aside and dropped.
+        # Each frame is printed, or set aside and dropped. One without a clock does not wait for others.
         printed, left = rows_of(lines), iter(ours)
-        expect(all(frame in left for _, frame in printed), form, number, printed, "beside", ours)
+        is_part = not Counter(frame for _, frame in printed) - Counter(ours)
+        expect(is_part if form in ("beast", "avr") else all(frame in left for _, frame in printed),
+               form, number, printed, "beside", ours)
         same(len(printed) + feed.feed.counts.aside, len(ours), form, number, data)
         theirs, is_sound = heard_by_model(data, live)
         if is_sound and not names and not feed.feed.counts.aside:

@@ -5,10 +5,11 @@ import fcntl
 import gzip
 import os
 import re
-import runpy
+import select
 import signal
 import socket
 import subprocess
+import sys
 import tempfile
 import threading
 import time
@@ -18,7 +19,8 @@ from typing import Callable, Iterator, List, Optional, Tuple
 from unittest import mock
 
 from process import (
-    FEED, fault_of, held_in, is_waiting, line_of, listening, put, ran, reported, started, wait_for_more, wait_until,
+    FEED, fault_of, held_in, is_waiting, line_of, listening, parts, put, ran, reported, started, wait_for_more,
+    wait_until,
 )
 from trying import AIR_EVEN, AIR_ODD, beast, expect, same, took
 
@@ -215,7 +217,7 @@ def of_a_file_while_output_is_full() -> None:
 
 def in_large_pieces() -> None:
     """Lines of a file are written in few pieces, to a file and to a pipe with room; those of a live source are not."""
-    found = runpy.run_path(FEED)
+    found = parts()
     signals = SimpleNamespace(reader=os.pipe()[0], ended=False)
     with tempfile.TemporaryFile() as file:
         for number, is_recorded, count, most in ((file.fileno(), True, 20_000, 3), (file.fileno(), False, 20_000, 200),
@@ -232,15 +234,59 @@ def in_large_pieces() -> None:
             expect(is_recorded or max(sizes) <= 4096, "pieces of", max(sizes))
 
 
+def room_in_a_pipe() -> None:
+    """While the reader of a pipe takes bytes, a file's lines wait for room for many of them. If it takes none, or the
+    run ends, as many are written as fit without a torn line, at least a page."""
+    size, page = 1 << 20, 4096
+    for ended, helds, wanted, naps, most in (
+        (False, [0], 200_000, 0, size - 2 * page), (False, [400_000], 200_000, 0, 240_384),
+        (False, [500_000, 450_000, 421_000, 400_000], 200_000, 3, 240_384),
+        (False, [500_000, 500_000], 200_000, 1, 40_384), (False, [600_000, 600_000], 200_000, 1, page),
+        (False, [1 << 20, 700_000, 300_000], 200_000, 2, 440_384), (False, [500_000, 300_000], 900_000, 1, 440_384),
+        (True, [500_000], 200_000, 0, 40_384), (False, [500_000, 510_000], 200_000, 1, 20_384),
+        (False, [500_000], 40_384, 0, 40_384), (False, [500_000, 0], 40_385, 1, size - 2 * page),
+    ):
+        number, signals, left, asked = os.pipe()[1], SimpleNamespace(reader=7, ended=ended), list(helds), []
+        found = parts()
+        sink = found["Sink"](number, signals)
+        sink.record()
+        with mock.patch("fcntl.ioctl", lambda *_: left.pop(0).to_bytes(4, sys.byteorder)), \
+                mock.patch("squitter_output.ready", lambda *words: asked.append(words) or {}):
+            same((sink._most(wanted), left), (most, []), helds, wanted)
+        same(asked, [({7: select.POLLIN}, 0.001)] * naps, helds, wanted)
+
+
+def whole_lines_of_a_file() -> None:
+    """The lines of a file are whole and in order behind a slow reader and a fast one, with room for a piece or not."""
+    lines = [b"%d %s\n" % (500 * number, AIR_EVEN.encode()) for number in range(100_000)]
+    with tempfile.NamedTemporaryFile() as file:
+        file.write(b"".join(lines))
+        file.flush()
+        for most, pause in ((1 << 20, 0.0), (1 << 16, 0.002), (1000, 0.0)):
+            run = subprocess.Popen([FEED, file.name], stdout=subprocess.PIPE, stderr=subprocess.PIPE, bufsize=0)
+            printed = []
+            while piece := os.read(run.stdout.fileno(), most) if run.stdout else b"":
+                printed.append(piece)
+                time.sleep(pause)
+            _, said = run.communicate()
+            same((b"".join(printed) == b"".join(lines), run.returncode), (True, 0), most, pause)
+            same(said, b"squitter-feed: 100000 written\n")
+
+
 def all_that_is_left() -> None:
     """All lines count that an output does not take, also those that come after it failed."""
-    sink = runpy.run_path(FEED)["Sink"]
+    sink = parts()["Sink"]
     reader, writer = os.pipe()
     os.close(reader)
     broken = sink(writer, SimpleNamespace(reader=os.pipe()[0], ended=False))
     for count, left in ((2, 2), (3, 5), (1, 6)):
         broken.write(LINE * count)
         same((broken.left, type(broken.fault)), (left, BrokenPipeError))
+    # The line feed alone is left of a line.
+    torn = sink(writer, SimpleNamespace(reader=os.pipe()[0], ended=False))
+    with mock.patch("os.write", side_effect=[len(LINE) - 1, OSError(5, "Input/output error")]):
+        torn.write(LINE)
+    same((torn.left, str(torn.fault)), (1, "[Errno 5] Input/output error"))
     os.close(writer)
 
 
@@ -374,7 +420,7 @@ def short_writes() -> None:
 
 def full_after_all() -> None:
     """An output that is full although there was room is waited for again."""
-    sink_of = runpy.run_path(FEED)["Sink"]
+    sink_of = parts()["Sink"]
     (reader, writer), (never, other) = os.pipe(), os.pipe()
     sink, write, sizes = sink_of(writer, SimpleNamespace(reader=never, ended=False)), os.write, []
 
@@ -394,7 +440,7 @@ def full_after_all() -> None:
 
 def ports() -> None:
     """A source is a port where it ends with a number from 1 to 65535, and a file otherwise."""
-    place_of = runpy.run_path(FEED)["place_of"]
+    place_of = parts()["place_of"]
     for number, is_port in ((0, False), (1, True), (65_535, True), (65_536, False), (99_999, False)):
         same(place_of(f"host:{number}"), ("host", number) if is_port else None)
         same(place_of(f"[::1]:{number}"), ("::1", number) if is_port else None)
@@ -405,7 +451,7 @@ def ports() -> None:
 
 def pauses() -> None:
     """A source is tried again after 1, 2, 4, 8, 16 and 32 seconds, and then after 60 each time."""
-    network = runpy.run_path(FEED)["NetworkSource"]
+    network = parts()["NetworkSource"]
     told: List[str] = []
     network.lost.__globals__["tell"] = told.append
     source = network("host", 5, None)

@@ -8,14 +8,17 @@ from squitter import Feed, FeedFormat
 from trying import expect, same
 
 COUNT = 1_000  # sources of each format
+# Text before a source's first line, and before each frame.
+FRONTS = ("", "", "\r", "\n", "x\n", "8D40;", "*2040;", 'MSG,3,1,1,4840D6\n', '{"now":1}\n', "time;icao24;rawmsg\n")
+PREFIXES = ("", "", "\r", "  ", "\t", "rx1: ", "2026-11-29 22:00:00 ", "a,b,", '{"a":1} ', "5 x ")
 FRAME_BYTES = {"1": 2, "2": 7, "3": 14}  # of each type of Beast message
 
 
 def outcome(feed: Feed, pieces: List[bytes]) -> Tuple[bytes, object, object]:
     """Returns the lines of a source, its counts, and its format before its end."""
-    lines = b"".join(feed.take(piece) for piece in pieces)
+    lines = b"".join(feed.take_text(piece) for piece in pieces)
     shown = feed.format
-    return lines + feed.finish(), feed.counts, shown
+    return lines + feed.finish_text(), feed.counts, shown
 
 
 def cut(data: bytes, draw: random.Random) -> List[bytes]:
@@ -55,17 +58,19 @@ def frame(draw: random.Random) -> str:
 
 
 def avr(draw: random.Random) -> bytes:
-    """Returns AVR text, with any marks and ends of lines, or with frames on lines of their own."""
+    """Returns AVR text, with any marks and ends of lines, or with frames on lines of their own. If its lines end with
+    line feeds, other text may come before the first one, and before each frame."""
     ticks, parts, end = clock(draw), [], draw.choice(("\n", "\r\n", "\n\r", "", "\r"))
     if draw.random() < 0.2:
-        parts = [frame(draw) + "\n" for _ in range(draw.randrange(1, 12))]
+        parts = [draw.choice(("", "", "\r")) + frame(draw) + "\n" for _ in range(draw.randrange(1, 12))]
         return "".join(parts).encode()
+    front, before = ("", "") if "\n" not in end else (draw.choice(FRONTS), draw.choice(PREFIXES))
     for _ in range(draw.randrange(1, 12)):
         mark = draw.choice("*:@%<")
         lead = "" if mark in "*:" else f"{ticks:012X}" + ("80" if mark == "<" else "")
-        parts.append(f"{mark}{lead}{frame(draw)};{end}")
+        parts.append(f"{before}{mark}{lead}{frame(draw)};{end}")
         ticks = (ticks + draw.randrange(120_000)) % (1 << 48)
-    return draw.choice(("", "\ufeff")).encode() + "".join(parts).encode()
+    return (draw.choice(("", "\ufeff")) + front + "".join(parts)).encode()
 
 
 def csv(draw: random.Random) -> bytes:

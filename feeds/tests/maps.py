@@ -451,6 +451,7 @@ def swapped() -> None:
         (log, '{"line":1}\n', f"squitter-geojson: line 1 is no answer of track{rows_hint}\n"),
         (log, text + HEADER, "squitter-geojson: line 2 is no answer of track\n"),
         (log, "no answers\n", "squitter-geojson: line 1 is no answer of track\n"),
+        (log, "1 waiting\n", "squitter-geojson: line 1 is no answer of track\n"),
     ):
         status, printed, reported = drawn(first, second)
         expect((status, printed) == (1, "") and said in reported, first, second, reported)

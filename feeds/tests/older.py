@@ -175,10 +175,6 @@ def why_fewer(form: str, one: Optional[Timed], near: List[Timed], is_believed: b
     jumps, are_wild = {each.jump for each in near}, any(each.is_wild or each.is_late for each in near)
     if one is not None and one.is_wild:
         return "fewer: a wild time is set aside"
-    if one is not None and form in CLOCKED and jumps & {"back", "a day ahead"}:
-        return "cost: two frames are set aside after a clock " + (
-            "that was wild" if any(each.is_wild for each in near) else
-            "that starts again" if "back" in jumps else "that goes ahead by more than a day")
     if one is not None and form not in CLOCKED and (one.is_late or is_believed):
         return "cost: a row is set aside that is late " + ("by more than a second and --reorder" if one.is_late else
                                                            "beside a wild one, which is believed")
@@ -242,9 +238,7 @@ def of_auto(feeds: Feeds, form: str, stream: Stream, reorder: int, new: Result) 
     elif auto.is_refused and not feeds.read(form, data[:FOUND_WITHIN])[0]:
         yield "auto: no frame is in the first 16,384 bytes"
     elif auto.is_refused:
-        lines = re.split(rb"[\n\r\xef\xbb\xbf]", data[:FOUND_WITHIN])
-        is_within = form == "avr" and not any(map(feeds.module.MARKED.match, lines))
-        yield "cost: refused, as no marked frame is at the start of a line" if is_within else "LOSS: refused"
+        yield "LOSS: refused"
     elif re.match(rb"\x1a[1234\xe3]", data):
         yield "cost: a start of a Beast message in front of a text shows Beast"
     else:

@@ -1,13 +1,17 @@
 """The feed of squitter-feed by hostile input: formats, timestamps, leaps, order."""
 from __future__ import annotations
 
+import gzip
 import random
 import re
 from typing import List, Sequence, Tuple
+from unittest import mock
 
 import squitter
 import squitter_feed
 from squitter_feed import Feed
+from squitter_sample import Sample
+from squitter_unpack import Unpacking
 from trying import (
     AIR_EVEN,
     AIR_ODD,
@@ -30,14 +34,14 @@ FAR = (1 << 64) - 1  # milliseconds: no time jumps, and none is late
 def split(form: str, *pieces: bytes) -> Tuple[List[str], int]:
     """The frames of a source of this format, except Mode A/C, and how many pieces were damaged."""
     feed = squitter.Feed(form, FAR, late=FAR, all_formats=True, by_arrival=True)
-    lines = b"".join(map(feed.take, pieces)) + feed.finish()
+    lines = b"".join(map(feed.take_text, pieces)) + feed.finish_text()
     return [line.split()[1] for line in lines.decode().splitlines()], feed.counts.damaged
 
 
 def times(form: str, data: bytes) -> List[int]:
     """The timestamps of a source of this format."""
     feed = squitter.Feed(form, FAR, late=FAR)
-    return feed.take_frames(data)[0].tolist() + feed.finish_frames()[0].tolist()
+    return feed.take(data)[0].tolist() + feed.finish()[0].tolist()
 
 
 def cut_anywhere(form: str, data: bytes, wanted: Tuple[List[str], int]) -> None:
@@ -62,6 +66,29 @@ def fed(
     lines = b"".join(feed.hear(piece, arrival) for piece, arrival in data)
     lines += feed.end(data[-1][1] if data else 0)
     return rows_of(lines), feed, told
+
+
+def in_a_room() -> None:
+    """Pieces in a reused buffer give the same lines and words, in a room that has them all or not, and a gzip archive
+    too. Lines in the room are those of the last piece."""
+    plain = b"".join(beast(AIR_EVEN[:22] + f"{n:06X}", 6_000_000 * n) for n in range(3000))
+    lines = [b"%d %s%06X\n" % (500 * n, AIR_EVEN[:22].encode(), n) for n in range(3000)]
+    for source, size, most, fits in ((plain, 1 << 12, 1 << 14, True), (plain, 1 << 12, 4000, False),
+                                     (plain, 1 << 18, 50, False), (gzip.compress(plain), 1 << 12, 1 << 18, True)):
+        told: List[str] = []
+        feed, unpacking, printed, count = Feed(False, told.append, room=bytearray(most)), Unpacking(), b"", 0
+        buffer = memoryview(bytearray(size))
+        for at in range(0, len(source), size):
+            piece = source[at:at + size]
+            buffer[:len(piece)] = piece
+            for part in unpacking.pieces(buffer[:len(piece)]):
+                heard = feed.hear(part, 5)
+                printed += heard
+                count += isinstance(heard, memoryview)
+                buffer[:] = bytes(size)  # the feed keeps no bytes of a piece in the buffer
+        printed += feed.end(5)
+        same((printed == b"".join(lines), told, feed.summary()), (True, [], "3000 written"), size, most)
+        expect((count > 0) == fits, size, most, count, "pieces have their lines in the room")
 
 
 def moments(data: Sequence[Tuple[bytes, int]], live: bool, **options: object) -> List[int]:
@@ -227,15 +254,15 @@ def clock() -> None:
     # a jump back in a file: as much later as a leap; once: left out
     same(
         of_file(*(clocked(AIR_EVEN, k * second) for k in (500, 501, 3, 4, 5)), leap=60_000),
-        # (the first two that agree with a jump are dropped)
-        [500_000, 501_000, 561_000],
+        [500_000, 501_000, 561_001, 562_001, 563_001],
     )
     same(
         of_file(*(clocked(AIR_EVEN, k * second) for k in (500, 501, 3, 502, 503))), [500_000, 501_000, 502_000, 503_000]
     )
     same(of_file(*(clocked(AIR_EVEN, k * second) for k in (1, 2, 90_000, 3, 4))), [1000, 2000, 3000, 4000], "once")
-    # (a jump ahead goes on as the clock shows it, and a quiet night is none)
-    same(of_file(*(clocked(AIR_EVEN, k * second) for k in (1, 2, 90_000, 90_001, 90_002))), [1000, 2000, 90_002_000])
+    # (a jump ahead goes on as the clock shows it)
+    same(of_file(*(clocked(AIR_EVEN, k * second) for k in (1, 2, 90_000, 90_001, 90_002))),
+         [1000, 2000, 90_000_000, 90_001_000, 90_002_000])
     same(of_file(*(clocked(AIR_EVEN, k * second) for k in (1, 2, 9000, 9001))), [1000, 2000, 9_000_000, 9_001_000])
 
 
@@ -256,8 +283,7 @@ def live_clock() -> None:
             (5, 1_027_000),
         )
     ]
-    # (the first two after the jump are dropped)
-    same(moments(live, True), [1_000_000, 1_001_000, 1_002_000, 1_003_000, 1_007_000, 1_008_000])
+    same(moments(live, True), [1_000_000, 1_001_000, 1_002_000, 1_003_000, 1_007_000, 1_008_000, 1_009_000, 1_010_000])
     # a quiet night is no leap, since the arrivals saw it too; a wild clock is
     quiet = [(clocked(AIR_EVEN, k * second), 1000 * k) for k in (1, 2, 20_000, 20_001)]
     same(moments(quiet, True), [1000, 2000, 20_000_000, 20_001_000])
@@ -376,8 +402,8 @@ def other_clock_again() -> None:
 
 
 def leaps() -> None:
-    """Times that leap: once, for good, at the start, at the end. Rows that leap wait until three in turn have come,
-    each at or after the one before; so does the first row until another fits it."""
+    """Times that leap: once, for good, at the start, at the end. Rows that leap wait for a third that follows; so
+    does the first row until another fits it."""
 
     def tried(*seconds: int, **options: object) -> Tuple[List[int], int]:
         data = b"".join(row(str(second)) for second in seconds)
@@ -392,7 +418,9 @@ def leaps() -> None:
     same(tried(0, 1, 2, 9000, 9001), ([0, 1, 2, 9000, 9001], 0), "the last two")
     same(tried(0, 1, 2, 9000, 9001, 9002, 9003), ([0, 1, 2, 9000, 9001, 9002, 9003], 0), "for good")
     same(tried(0, 1, 9000, 99_000, 2, 3), ([0, 1, 2, 3], 2), "two of them")
-    same(tried(0, 1, 9000, 99_000, 9001, 9002), ([0, 1, 9001, 9002], 2), "one in a leap for good")
+    same(tried(0, 1, 9000, 99_000, 9001, 9002), ([0, 1, 9000, 9001, 9002], 1), "one in a leap for good")
+    same(tried(0, 1, 9000, 9001, 99_000, 9002), ([0, 1, 9000, 9001, 9002], 1), "one behind two that leap")
+    same(tried(0, 1, 9000, 5000, 9001, 9002), ([0, 1, 9000, 9001, 9002], 1), "one before the first that leaps")
     same(tried(0, 9000, 9001, 9002), ([0, 9000, 9001, 9002], 0), "one line, and then a leap for good")
     same(tried(5), ([5], 0), "one line")
     same(tried(0, 99_999), ([0, 99_999], 0), "two lines")
@@ -554,6 +582,10 @@ def units() -> None:
     same(told_of(flights, "csv"), [], "twelve hours between two flights")
     same(told_of(spaced(1, 17), reorder=1000), [SECONDS], "sorted")
     same(told_of([f"0 {line.split()[1]}\n" for line in spaced(1, 2)]), [ZEROS], "two frames without times")
+    # As many zeros as the sample has do not show that the rest has none.
+    zeros = [f"0 {AIR_EVEN}\n"] * 16_384
+    for rest, said in ((zeros[:2], [ZEROS]), (spaced(1, 17), [SECONDS]), (spaced(50, 17), [])):
+        same(fed([("".join(lines).encode(), 5) for lines in (zeros, rest)], False, leap=FAR)[2], said, "after zeros")
     # The first 16,384 squitters show it: with the piece that has the last of them, and not at the end.
     told: List[str] = []
     feed = Feed(False, told.append, leap=FAR)
@@ -567,6 +599,32 @@ def units() -> None:
     same(told, [SECONDS], "at the end")
     same(fed([(b"".join(beast(line.split()[1], 12_000 * n) for n, line in enumerate(spaced(1))), 5)], False)[2], [],
          "a clock has one unit")
+
+
+def sampled() -> None:
+    """The sample of a log has the timestamps and addresses of its squitters, also of a first line alone and behind a
+    jump, in pieces: at most 16,384."""
+    def seen(lines: Sequence[Tuple[int, str]], clocked: bool) -> Tuple[List[int], List[int], object]:
+        sample = Sample()
+        for moment, start in lines:
+            sample.add(memoryview(f"{moment} {start}{'0' * (28 - len(start))}\n".encode()))
+        with mock.patch("squitter.unit_of") as asked:
+            sample.unit(clocked)
+        moments, addresses, told = asked.call_args.args
+        return list(moments), [list(addresses).index(one) for one in addresses], told
+
+    same(seen([], True), ([], [], True))
+    same(seen([(5, "8D")], False), ([5], [0], False))
+    lines = [(0, "8D000001"), (5, "88000100"), (10**12, "8F010000"), (2**64 - 1, "8D000001"), (2**64 - 1, "8D010000")]
+    same(seen(lines, False), ([0, 5, 10**12, 2**64 - 1, 2**64 - 1], [0, 1, 2, 0, 2], False))
+    same(seen([(10**9 * number, "8D") for number in range(8)], False)[0], [10**9 * number for number in range(8)])
+    same(seen([(1, "8D"), (2, "90"), (3, "80"), (4, "A0"), (5, "8D")], True), ([1, 5], [0, 0], True))
+    many = [(number, f"8D{number:06X}") for number in range(16_386)]
+    same(seen(many, False), (list(range(16_384)), list(range(16_384)), False))
+    sample = Sample()
+    for count, is_full in ((16_383, False), (1, True), (1, True)):
+        sample.add(f"5 {AIR_EVEN}\n".encode() * count)
+        same(sample.is_full(), is_full, count)
 
 
 def clocks_of_other_kinds() -> None:

@@ -12,6 +12,7 @@ from contextlib import ExitStack, contextmanager
 from typing import Callable, Dict, Iterator, List, Sequence, Tuple
 
 from process import listening, log_of, reported, started, track, whole_flights
+from squitter_feed import AHEAD
 from trying import Failed, Missing, beast, expect, same
 
 DAEMON = "dump1090-mutability"
@@ -212,7 +213,8 @@ def hour() -> None:
         same(frames_of(log), [frame for _, frame in rows], name)
         first = int(log.split()[0])
         same([int(line.split()[0]) - first for line in log.splitlines()], [moment - rows[0][0] for moment, _ in rows])
-        same(said, f"squitter-feed: {len(rows)} written\n", name)
+        # (the hour comes in seconds)
+        same(said, f"squitter-feed: {AHEAD}\nsquitter-feed: {len(rows)} written\n", name)
 
 
 def restarted() -> None:

@@ -2,9 +2,11 @@
 from __future__ import annotations
 
 import fcntl
+import glob
 import gzip
 import os
 import re
+import runpy
 import shutil
 import signal
 import socket
@@ -14,13 +16,20 @@ import termios
 import threading
 import time
 from contextlib import ExitStack, contextmanager
-from typing import IO, Callable, Dict, Iterator, List, Sequence, Tuple, Union
+from typing import IO, Any, Callable, Dict, Iterator, List, Sequence, Tuple, Union
 
+import squitter_output
+import squitter_port
 from trying import AIR_EVEN, AIR_ODD, REPLY, beast, clocked, expect, row, same, took
 
 TOP = os.path.dirname(os.path.dirname(os.path.dirname(os.path.abspath(__file__))))
 FEED = f"{TOP}/feeds/squitter-feed"
 SITE = ["--lat=52.31", "--lon=4.76"]
+
+
+def parts() -> Dict[str, Any]:
+    """The classes and functions of the script and of its modules."""
+    return {**vars(squitter_output), **vars(squitter_port), **runpy.run_path(FEED)}
 
 
 def program() -> str:
@@ -124,6 +133,8 @@ def refusals() -> None:
     expect(said.startswith("squitter-feed: -: the input is SBS"), said)
     rows: List[Tuple[List[str], int, str]] = [
         (["/nonesuch"], 3, "cannot read /nonesuch: No such file or directory; a port is given as HOST:PORT"),
+        (["/dev/null/x"], 3, "cannot read /dev/null/x: Not a directory"),
+        (["/proc/self/mem"], 3, "cannot read /proc/self/mem: Input/output error"),
         (["localhost"], 3, "cannot read localhost: No such file or directory; a port is given as HOST:PORT"),
         ([":30005"], 3, "a port is given as HOST:PORT"),
         (["http://localhost:8080"], 3, "a port is given as HOST:PORT"),
@@ -174,8 +185,8 @@ def without_library() -> None:
         for folder in ("bin", "share/squitter", "stub", "programs"):
             os.makedirs(f"{work}/{folder}")
         shutil.copy(FEED, f"{work}/bin")
-        for name in ("squitter_feed.py", "squitter_unpack.py", "squitter_words.py"):
-            shutil.copy(f"{TOP}/feeds/{name}", f"{work}/share/squitter")
+        for path in glob.glob(f"{TOP}/feeds/squitter_*.py"):
+            shutil.copy(path, f"{work}/share/squitter")
         with open(f"{work}/stub/squitter.py", "w") as stub:
             stub.write("raise ImportError('no such module')\n")
         os.symlink(program(), f"{work}/programs/squitter")

@@ -2,6 +2,7 @@
 from __future__ import annotations
 
 import bz2
+import glob
 import gzip
 import io
 import lzma
@@ -167,8 +168,8 @@ def other_libraries() -> None:
     with tempfile.TemporaryDirectory() as work:
         for folder in ("feeds", "programs"):
             os.mkdir(f"{work}/{folder}")
-        for name in ("squitter-feed", "squitter_feed.py", "squitter_unpack.py", "squitter_words.py"):
-            shutil.copy(f"{TOP}/feeds/{name}", f"{work}/feeds")
+        for path in (f"{TOP}/feeds/squitter-feed", *glob.glob(f"{TOP}/feeds/squitter_*.py")):
+            shutil.copy(path, f"{work}/feeds")
         shutil.copytree(f"{TOP}/clib/squitter", f"{work}/clib/squitter")
         feed, system = f"{work}/feeds/squitter-feed", {**os.environ, "PYTHONPATH": f"{TOP}/clib"}
         done = subprocess.run([feed, "-", "--leap=5"], input=LOG, capture_output=True, env=system)

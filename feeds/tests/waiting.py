@@ -2,24 +2,18 @@
 from __future__ import annotations
 
 import os
-import runpy
 import select
 import socket
 import subprocess
 import time
 from types import SimpleNamespace
-from typing import Any, Dict, List, Optional, Tuple
+from typing import List, Optional, Tuple
 from unittest import mock
 
 from ending import held_in, is_waiting, wait_until
-from process import FEED, line_of, listening, put, reported, started
+from process import FEED, line_of, listening, parts, put, reported, started
 from squitter_feed import Feed
 from trying import AIR_EVEN, AIR_ODD, Late, expect, same, took
-
-
-def parts() -> Dict[str, Any]:
-    """The classes and functions of the script."""
-    return runpy.run_path(FEED)
 
 
 def arrivals() -> None:

@@ -9,7 +9,7 @@ from typing import List, Tuple
 
 from process import program, ran
 from squitter import Stranger, Unit
-from squitter._errors import STRANGERS, UNITS
+from squitter._made import STRANGERS, UNITS
 from trying import AIR_EVEN, AIR_ODD, COMM_B, REPLY, beast, clocked, same
 
 MLAT = int.from_bytes(b"\xff\x00MLAT", "big")  # in the place of a clock
@@ -39,7 +39,11 @@ def refusals_alike() -> None:
         Stranger.SBS: b"MSG,3,1,1,4B1001,1,2026/11/23,22:00:00.000,,,,38000,,,52.1,4.2,,,0,0,0,0\n",
         Stranger.TAR: archive_of_tar(), Stranger.UTF16: f"5 {AIR_ODD}\n".encode("utf-16"),
         Stranger.JSON: b'{"hex":"40621d"}\n', Stranger.NO_FRAME: b"x\n" * 5,
-        Stranger.PACKED: b"\x1f\x8b\x08" + bytes(99),
+        Stranger.PACKED: b"\x1f\x8b\x08" + bytes(99), Stranger.SEMICOLONS: f"1,5;40621d;{AIR_ODD}\n".encode(),
+        Stranger.TABS: b"time\ticao24\trawmsg\n", Stranger.NO_TIME: f"icao24,rawmsg\n40621d,{AIR_ODD}\n".encode(),
+        Stranger.NO_RAWMSG: b"time,icao24,lat,lon\n1.5,40621d,52.25,3.92\n",
+        Stranger.NO_SECONDS: f"1700000000000,40621d,{AIR_ODD}\n".encode(),
+        Stranger.NO_NAMES: f"1.5,{AIR_ODD}\n".encode(),
     }
     same(set(sources), set(Stranger), "sources")
     for stranger, data in sources.items():
@@ -67,6 +71,8 @@ def counts_alike() -> None:
         ([], b"".join(clocked(AIR_ODD, at) for at in (12_000, 24_000, 10**12, 36_000)), "3 written, 1 set aside",
          reorder),
         ([], f"*{AIR_ODD};\n*8D;\nxx\n".encode(), "1 written, 2 damaged", ""),
+        ([], b"".join(b"%d %s\n" % (at, AIR_ODD.encode()) for at in (9000, 9001, 1, 2, 3)), "5 written, 1 jumps back"
+         "; timestamps behind a jump back are moved on: try --leap and --reorder to sort them", ""),
         (["--reorder=1000"], f"9000 {AIR_ODD}\n8500 {AIR_ODD}\n5000 {AIR_ODD}\n".encode(), "2 written, 1 set aside",
          reorder),
     ]

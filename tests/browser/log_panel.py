@@ -183,19 +183,25 @@ def packed_files(tries: Tries, browser: Chromium, path: str, data: bytes, wanted
         expect(told in shown(browser, "#log-state"), shown(browser, "#log-state"))
 
 
-SEMICOLONS, TABS = (f"It is a table with {name} between its columns: they have to be commas." for name in (
-    "semicolons", "tabs"))
-NO_TIMES = "It is a table without times in seconds: it needs the columns time and rawmsg."
+SEMICOLONS = "The table has semicolons between its columns: they have to be commas, and its decimal commas points."
+TABS = "The table has tabs between its columns: they have to be commas."
+NO_TIME = "The table has no column time (seconds): name its columns time, icao24 and rawmsg in the first row."
+NO_RAWMSG = "The table has no column rawmsg, so it has no frames: take one that has them."
+NO_SECONDS = ("The first column of the table has no times in seconds, as 1700000000.25: milliseconds and dates are not "
+              "read.")
+NO_NAMES = ("The third column of the table has no frames: name its columns time (seconds), icao24 and rawmsg in the "
+            "first row.")
 NO_FRAMES = "It has no frames: a frame has 28 hexadecimal digits."
 NO_MOMENTS = "No line has a timestamp. Put a time in milliseconds and a space before each frame."
 # Tables and texts without a valid line, each with the page's message.
 TABLES = [
     ("time;icao24;rawmsg\n1.5;40621d;8d40621d58c382d690c8ac2863a7\n", SEMICOLONS), (f"{AIR_EVEN};1.5\n", SEMICOLONS),
     (f'"rawmsg";"time"\r\n"{AIR_EVEN}";"1.5"\r\n', SEMICOLONS), (f"time\trawmsg\n1.5\t{AIR_EVEN}\n", TABS),
-    (f"1.5\t\t{AIR_EVEN}", TABS), (f"icao24,rawmsg\n40621d,{AIR_EVEN}\n", NO_TIMES),
-    (f"1700000000000,40621d,{AIR_EVEN}\n", NO_TIMES), ("time,icao24,lat,lon\n1700000000,40621d,52.3,4.7\n", NO_FRAMES),
+    (f"1.5\t\t{AIR_EVEN}", TABS), (f"icao24,rawmsg\n40621d,{AIR_EVEN}\n", NO_TIME),
+    (f"1700000000000,40621d,{AIR_EVEN}\n", NO_SECONDS), (f"1.5,{AIR_EVEN}\n", NO_NAMES),
+    ("time,icao24,lat,lon\n1700000000,40621d,52.3,4.7\n", NO_RAWMSG), ("time,lat\n5,52.3\n", NO_FRAMES),
     ("x" * 20_000 + "\n", NO_FRAMES), (f"{AIR_EVEN[:27]}\n", NO_FRAMES), (f"{AIR_EVEN}\n", NO_MOMENTS),
-    (f"*{AIR_EVEN};\n", NO_MOMENTS), (f"x {AIR_EVEN}\n", NO_MOMENTS), (f"1,5;{AIR_EVEN},x\n", SEMICOLONS),
+    (f"*{AIR_EVEN};\n", NO_MOMENTS), (f"x {AIR_EVEN}\n", NO_MOMENTS), (f"1,5;{AIR_EVEN};x\n", SEMICOLONS),
     (f"*{AIR_EVEN};{AIR_EVEN}\n", NO_MOMENTS),  # AVR, with a frame between semicolons
 ]
 

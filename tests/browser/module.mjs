@@ -6,7 +6,7 @@ import { setTimeout as waited } from "node:timers/promises";
 import { setFlagsFromString } from "node:v8";
 import { runInNewContext } from "node:vm";
 import * as squitter from "../../web/squitter.js";
-import { HINTS } from "../../web/squitter_values.js";
+import { HINTS } from "../../web/squitter_layout.js";
 
 const {
   load, AirHead, AltitudeForm, Angle, Code, Contact, Fault, Feed, FeedFormat, GroundHead, Kind, Log, Order,
@@ -236,6 +236,7 @@ const WORDS_OF_ERRORS = [
   [() => tracker.restore({ last: 5n, entries: new Uint8Array(193) }), "an entry has 192 bytes"],
   [() => library.pair(FRAME, FRAME), "same parity: give an even and an odd frame"],
   [() => library.read("0".repeat(28)), "not DF17 0: only extended squitters (DF17) are read; skip other frames"],
+  [() => ended.take(new Uint8Array(1)), "no tracker, log, feed or order: it is closed"],
   [() => library.zoneCount(91), "bad latitude: a latitude is from -90 to 90 degrees, with at most 12 decimals"],
   [() => new Log(library, { sight: 1 }), "a log has no setting sight; its settings are window, limit, site"],
   [() => new Tracker(library, { Limit: 1 }), "a tracker has no setting Limit; its settings are window, limit, site"],
@@ -620,7 +621,11 @@ function formatsOfSources() {
     if (feed.format !== FeedFormat[name] || feed.stranger !== null) throw new Error(`${name} is ${feed.format}`);
     feed.close();
   }
-  const strangers = { SBS: "MSG,3,1\n", JSON: "{}\n", PACKED: "BZh9", NO_FRAME: "2040\n" };
+  const strangers = {
+    SBS: "MSG,3,1\n", JSON: "{}\n", PACKED: "BZh9", NO_FRAME: "2040\n", SEMICOLONS: "rawmsg;time\n",
+    TABS: "rawmsg\ttime\n", NO_TIME: "rawmsg,icao24\n", NO_RAWMSG: "time,icao24\n", NO_SECONDS: `5 s,,${EVEN}\n`,
+    NO_NAMES: `5,${EVEN}\n`,
+  };
   for (const [name, source] of Object.entries(strangers)) {
     const feed = new Feed(library, { format: FeedFormat.AUTO });
     feed.take(text(source));
@@ -662,9 +667,10 @@ function feedsInPieces() {
       if (lines !== LINES || texts !== LINES) throw new Error(`${name} by ${size}: ${lines} ${texts}`);
       for (const feed of [one, other]) {
         const { found, written, modeAc, multilaterated, receiverIds, damaged, aside, formats } = feed.counts;
-        const told = [found, written, modeAc, multilaterated, receiverIds, damaged, aside, formats.length, formats[11]];
+        const told = [found, written, modeAc, multilaterated, receiverIds, damaged, aside, formats.length, formats[11],
+          feed.counts.breaks, feed.counts.ahead];
         const counts = told.join(" ");
-        if (counts !== "6 4 0 0 0 1 0 25 1") throw new Error(`${name}: counts ${counts}`);
+        if (counts !== "6 4 0 0 0 1 0 25 1 0 0") throw new Error(`${name}: counts ${counts}`);
         feed.close();
       }
     }
@@ -705,10 +711,16 @@ function liveFeeds() {
   const one = beastMessage("3", 12_000_000, EVEN), first = dead.takeText(together([one, one.subarray(0, 9)]));
   dead.disconnected();
   const next = first + dead.takeText(one);
-  if (next !== `1000 ${EVEN}\n1500 ${EVEN}\n` || dead.counts.damaged !== 1n) throw new Error(`connections ${next}`);
+  if (next !== `1000 ${EVEN}\n1501 ${EVEN}\n` || dead.counts.damaged !== 1n) throw new Error(`connections ${next}`);
+  const back = new Feed(library, { format: FeedFormat.LOG });
+  back.takeText(text([9000, 9001, 1, 2, 3].map((at) => `${at} ${EVEN}\n`).join("")));
+  if (back.counts.breaks !== 1n || back.counts.written !== 5n) throw new Error("times that go back");
+  const ahead = new Feed(library, { format: FeedFormat.BEAST, live: true, leap: 1000 });
+  ahead.takeText(together([500, 1000, 1501].map((at) => beastMessage("3", 12_000 * at, EVEN))), 77);
+  if (ahead.counts.ahead !== 1n) throw new Error("a clock that runs ahead of the arrivals");
   const recorded = new Feed(library, { format: FeedFormat.AVR });
   if (recorded.takeText(text(`*${EVEN};`), 5) !== `0 ${EVEN}\n`) throw new Error("an arrival of a recorded source");
-  for (const feed of [live, dead, recorded]) feed.close();
+  for (const feed of [live, dead, back, ahead, recorded]) feed.close();
 }
 
 /** Tests each setting of a feed beside its default: late rows, other downlink formats, and an ignored clock. */

@@ -135,12 +135,8 @@ def declared(tries: Tries) -> str:
 
 
 def hints(tries: Tries) -> str:
-    """Each fault of a frame, a pair, a tracker or an argument says what to do, in JavaScript and in Python alike."""
+    """Each fault of a frame, a pair, a tracker or an argument says what to do."""
     told = json.loads(of_module(tries, "hints"))
-    block = re.search(r"^_OF_CODE.*?^}", read_text("clib/squitter/_errors.py"), re.M | re.S)
-    python = dict(re.findall(r'^    Code\.(\w+): "(.*)",$', block[0] if block else "", re.M))
-    differing = {name for name in python if told.get(name) != python[name]}
-    expect(len(python) == 15 and not differing, "other words for", differing)
     enum = re.search(r"^class Code\(.*?\n\n\n", read_text("clib/squitter/_made.py"), re.M | re.S)
     names = set(re.findall(r"^    ([A-Z_0-9]+) = ", enum[0] if enum else "", re.M))
     # These occur in lines of a log, or not at all: JavaScript and Python make no such error of their own.

@@ -258,6 +258,9 @@ add([[7, 4, 0xABC, 6500, none, none, 36, 35, 0, 0, -25], [8, 5, 0xABC, 7000, non
 LISTED: Rows = (
     ("[answers.count, answers.places, answers.refused, answers.withoutSite, answers.withoutTime]", [8, 2, 1, 1, 1]),
     ("answers.left", [0, 1, 2, 3, 4, 5, 6, 7]),
+    ("Array.from(byId('filter-what').options, (one) => `${one.value}: ${one.text}`)",
+     [": all results", "places: positions", "1: fix", "2: followed", "3: waiting", "4: split", "5: far", "6: no site",
+      "7: no position", "0: refused"]),
     ("[0, 1, 2, 3, 4, 5, 6, 7].map((index) => answers.row(index))",
      [["1", "", "refused: bad moment", "", "", "", ""],
       ["3", "0:00:00.000", "fix", "000ABC", "1.5000000", "-2.2500000", "100 ft"],
