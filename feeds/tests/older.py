@@ -170,16 +170,16 @@ def timed(stream: Stream, frames: List[Any], reorder: int) -> Dict[str, Timed]:
     return found
 
 
-def why_fewer(form: str, one: Optional[Timed], near: List[Timed], is_believed: bool) -> str:
+def why_fewer(one: Optional[Timed], near: List[Timed], is_believed: bool) -> str:
     """Returns why the program set a frame aside that the older feed wrote."""
     jumps, are_wild = {each.jump for each in near}, any(each.is_wild or each.is_late for each in near)
     if one is not None and one.is_wild:
         return "fewer: a wild time is set aside"
-    if one is not None and form not in CLOCKED and (one.is_late or is_believed):
-        return "cost: a row is set aside that is late " + ("by more than a second and --reorder" if one.is_late else
-                                                           "beside a wild one, which is believed")
-    if one is not None and form not in CLOCKED and jumps != {""} and are_wild:
-        return "cost: a row that jumps is set aside, as the next one is wild or late"
+    if one is not None and (one.is_late or is_believed):
+        return "cost: a frame is set aside that is late " + ("by more than a second and --reorder" if one.is_late else
+                                                             "beside a wild one, which is believed")
+    if one is not None and jumps != {""} and are_wild:
+        return "cost: a frame that jumps is set aside, as one near it is wild or late"
     return "LOSS: a frame"
 
 
@@ -217,7 +217,7 @@ def differences(form: str, order: Dict[str, Timed], new: Result, old: Result) ->
             yield f"{'fewer' if len(mine) < len(other) else 'time'}: of a frame that is there twice"
         elif not mine:
             near = [order[name] for name in frames[max(0, at - 3) : at + 4]]
-            yield why_fewer(form, one, near, is_believed)
+            yield why_fewer(one, near, is_believed)
         elif mine != other and one is None:  # (it has the timestamp before it)
             yield "time: of a frame without a time" if mine[0] == before[frame] else "LOSS: a timestamp"
         elif mine != other:

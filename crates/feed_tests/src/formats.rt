@@ -142,14 +142,15 @@ fn text_is_found(rt: HostRuntime) {
 
 #[test]
 fn text_is_found_behind_other_text(rt: HostRuntime) {
+    // One such line shows nothing before the source ends.
     let line = "0 8D4840D6202CC371C32CE0576098\n";
-    assert!(rt; holds(b"\r*8D4840D6202CC371C32CE0576098;\n", line, 1, 0));
-    assert!(rt; holds(b"\r8D4840D6202CC371C32CE0576098\r\n", line, 1, 0));
+    assert!(rt; holds(b"\r*8D4840D6202CC371C32CE0576098;\n", line, 4, 0));
+    assert!(rt; holds(b"\r8D4840D6202CC371C32CE0576098\r\n", line, 4, 0));
     assert!(rt;
         holds(
             b"\xEF\xBB\xBF  *8D4840D6202CC371C32CE0576098;\n",
             line,
-            1,
+            4,
             1
         )
     );
@@ -163,23 +164,26 @@ fn text_is_found_behind_other_text(rt: HostRuntime) {
         holds(
             b"{\"now\":1}\n *8D4840D6202CC371C32CE0576098;\n",
             line,
-            1,
+            4,
             3
         )
     );
-    assert!(rt; holds(b"{}*8D4840D6202CC371C32CE0576098;\n", line, 1, 1));
-    assert!(rt; holds(b"MSG,3,*8D4840D6202CC371C32CE0576098;\n", line, 1, 1));
+    assert!(rt; holds(b"{}*8D4840D6202CC371C32CE0576098;\n", line, 4, 1));
+    assert!(rt; holds(b"MSG,3,*8D4840D6202CC371C32CE0576098;\n", line, 4, 1));
     assert!(rt;
         holds(
             b"time;rawmsg\n\t*8D4840D6202CC371C32CE0576098;\n",
             line,
-            1,
+            4,
             3
         )
     );
     // A log is none of it. Four digits may be any number.
     let log = b"1000 *8D4840D6202CC371C32CE0576098;\n2000 *8D4840D6202CC371C32CE0576098;\n";
     assert!(rt; holds(log, TWO, 3, 0));
+    let cut =
+        b"0 *8D4840D6202CC371C32CE0576098;x\n1000 *8D4840D6202CC371C32CE0576098;\n2000 8D4840D6202CC371C32CE0576098\n";
+    assert!(rt; holds(cut, TWO, 3, 1));
     assert!(rt; holds(b"x *2040;\n", "", 10, 1));
     // A line without a line feed counts once the bytes end that may show the format.
     let mut feed = Feed::new(None, &RECORDED);

@@ -69,11 +69,11 @@ squitters_in before (one ∷ more) = told_of_all one.arrival before.ear one.foun
 abbrev pub all_squitters : Feeding → List Fed → (arrival : ℕ) → List Timed
 all_squitters before calls arrival = squitters_in before calls ++ told_at_end arrival (last_fed before calls)
 
--- the order of a feed: with a `reorder` of 0 there is none, and squitters are given as they come
+-- the order of a feed; a `reorder` of 0 keeps squitters in the order in which they come
 abbrev pub order_with : (reorder : ℕ) → Option Sorting
 order_with reorder = if reorder == 0 then None else Some (nothing_sorted reorder)
 
--- the squitters that are given of those that come, the order after them, and the squitters that it holds
+-- the squitters that are given once these came; the order after them; and the squitters that it holds
 abbrev pub given_by : Option Sorting → List Timed → List Timed
 given_by None came = came
 given_by (Some order) came = given_all order came

@@ -106,7 +106,7 @@ abbrev pub summary_text : FeedEnd → List ℕ
 summary_text end =
     unit_line end.unit ++ counts_text end.counts ++ part end.breaks (codes " jumps back") ++ advice end
 
--- the end of a source of which so many items were written, and so many set aside
+-- the end of a source with these numbers of squitters that were written and set aside
 abbrev pub summed : (written aside : ℕ) → (is_dated : Bool) → FeedEnd
 summed written aside is_dated = record {
   counts = record nothing_counted { found = written + aside; written = written; aside = aside };

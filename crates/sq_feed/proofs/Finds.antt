@@ -5,14 +5,14 @@ use Rattle.std.proofs.lemmas.Bool.{eq-eqb, le-leb, lt-leb, ne_eqb}
 use Rattle.std.proofs.lemmas.List.{drop-append-le, length-drop}
 use Rattle.std.proofs.Math.Seq.{take-append_seam}
 use Rattle.std.specs.Prelude.{◌==◌, IfNone, OnSome, Option, Some, None, option_to_list}
-use Rattle.sq_feed.specs.declared.machine.Format.TheVariants.{Beast}
+use Rattle.sq_feed.specs.declared.machine.Format.TheVariants.{Avr, Beast}
 use Rattle.sq_feed.specs.declared.message.Found.{Found}
 use Rattle.sq_feed.specs.declared.signs.Sign.{Sign}
 use Rattle.sq_feed.specs.declared.signs.Sign.TheVariants.{Unclear, Shows, Other}
 use Rattle.sq_feed.specs.Begun.{Begun, HoldWithRest, rest_of}
 use Rattle.sq_feed.specs.Finding.{Finds, HasShown, Lines, beast_of, byte_sign, first_shown, in_turn, in_turn_after, is_beast}
 use Rattle.sq_feed.specs.declared.message.Stranger.{Stranger}
-use Rattle.sq_feed.specs.Finding.{line_sign, marked_sign, start_sign}
+use Rattle.sq_feed.specs.Finding.{begun_sign, line_sign, marked_sign, start_sign}
 use Rattle.sq_feed.specs.Finding.{last_sign, limit, limit_sign, lines_after, named, remembered, shown_after, shown_by}
 use Rattle.sq_feed.specs.Finding.{sign_within}
 use Rattle.sq_feed.specs.Stream.{found_in}
@@ -92,17 +92,20 @@ text_more old mid byte messages more same is few =
     (lt-leb 2 (beast_of mid []) (subst (λ n. n < 2) is few))
 
 -- what is shown at the limit, by the sign of the line that has begun
-last_shown : (old new : Finds) (byte : ℕ) (last : Sign) (stranger : Stranger)
-    → ((more : List ℕ) → shown_after old (byte ∷ more) ≡ first_shown last (Other stranger))
-    → HasShown (first_shown last (Other stranger)) old (byte ∷ []) new
-last_shown old new byte Unclear stranger shows = shows
-last_shown old new byte (Shows format) stranger shows = shows
-last_shown old new byte (Other other) stranger shows = shows
+last_shown : (old new : Finds) (byte : ℕ) (last : Sign) (is_framed : Bool) (stranger : Stranger)
+    → ((more : List ℕ) → shown_after old (byte ∷ more)
+    ≡ first_shown last (if is_framed then Shows Avr else Other stranger))
+    → HasShown (first_shown last (if is_framed then Shows Avr else Other stranger)) old (byte ∷ []) new
+last_shown old new byte Unclear true stranger shows = shows
+last_shown old new byte Unclear false stranger shows = shows
+last_shown old new byte (Shows format) is_framed stranger shows = shows
+last_shown old new byte (Other other) true stranger shows = shows
+last_shown old new byte (Other other) false stranger shows = shows
 
 limit_shown : (old new : Finds) (byte : ℕ) → ((more : List ℕ) → shown_after old (byte ∷ more) ≡ limit_sign new.text)
     → HasShown (limit_sign new.text) old (byte ∷ []) new
-limit_shown old new byte = last_shown old new byte (line_sign new.text.line)
-    (named (remembered new.text.stranger (line_sign new.text.line)))
+limit_shown old new byte = last_shown old new byte (begun_sign new.text) new.text.is_framed
+    (named (remembered new.text.stranger (begun_sign new.text)))
 
 -- the sign of a byte and that of the limit, whatever they are
 by_signs : (old mid new : Finds) (byte : ℕ) (sign : Sign) (at_limit : Bool)
@@ -151,7 +154,7 @@ shown_on old mid new a b (Other stranger) first second = λ more.
 
 -- ---- the line so far
 
-front_all : (xs : List ℕ) (x : ℕ) → take (length (xs ++ x ∷ []) - 1) (xs ++ x ∷ []) ≡ xs
+pub front_all : (xs : List ℕ) (x : ℕ) → take (length (xs ++ x ∷ []) - 1) (xs ++ x ∷ []) ≡ xs
 front_all xs x =
     ap (λ n. take n (xs ++ x ∷ [])) (omega (arith, length-append xs (x ∷ []))) ∙ take-append_seam xs (x ∷ [])
 
@@ -163,18 +166,23 @@ is_first_line (suc line) count within =
     ∙ sym (ne_eqb (count - suc line) count (λ same. absurd (omega (arith, within, same))))
 
 -- the sign of a byte, by the line with the byte
-pub pushed_sign : (held all line : List ℕ) (from byte : ℕ) (stranger : Option Stranger) → from ≤ length held
-    → all ≡ held ++ byte ∷ [] → line ≡ drop from all
-    → (if byte == 10 then line_sign (take (length line - 1) line)
+pub pushed_sign : (held all line : List ℕ) (from byte : ℕ) (is_framed : Bool) (stranger : Option Stranger)
+    → from ≤ length held → all ≡ held ++ byte ∷ [] → line ≡ drop from all
+    → (if byte == 10 then line_sign is_framed (take (length line - 1) line)
     else (if byte == 59 then marked_sign (take (length line - 1) line)
     else (if from == 0 then start_sign line else Unclear)))
-    ≡ byte_sign (record { line = drop from held; count = length held; stranger = stranger }) byte
-pushed_sign held all line from byte stranger within is part =
+    ≡ byte_sign (record {
+      line = drop from held;
+      count = length held;
+      is_framed = is_framed;
+      stranger = stranger;
+    }) byte
+pushed_sign held all line from byte is_framed stranger within is part =
     let whole : line ≡ drop from held ++ byte ∷ [] =
     part ∙ ap (drop from) is ∙ drop-append-le from held (byte ∷ []) within in
-    ap₂ (λ (l : List ℕ) (b : Bool). if byte == 10 then line_sign (take (length l - 1) l)
+    ap₂ (λ (l : List ℕ) (b : Bool). if byte == 10 then line_sign is_framed (take (length l - 1) l)
     else (if byte == 59 then marked_sign (take (length l - 1) l) else (if b then start_sign l else Unclear)))
     whole (is_first_line from (length held) within ∙ ap (λ n. n == length held) (sym (length-drop from held)))
-    ∙ ap (λ (l : List ℕ). if byte == 10 then line_sign l else (if byte == 59 then marked_sign l
+    ∙ ap (λ (l : List ℕ). if byte == 10 then line_sign is_framed l else (if byte == 59 then marked_sign l
     else (if length (drop from held) == length held then start_sign (drop from held ++ byte ∷ []) else Unclear)))
     (front_all (drop from held) byte)

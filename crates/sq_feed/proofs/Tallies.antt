@@ -21,7 +21,7 @@ use Rattle.sq_feed.specs.declared.message.Time.TheVariants.{Unknown, Ticks, Mill
 use Rattle.sq_feed.specs.declared.message.Timed.{Timed}
 use Rattle.sq_feed.specs.Counts.{Tally, counted, counted_as, counted_rows}
 use Rattle.sq_feed.specs.Dates.{Judged, believes, confirmed, confirmed_by, ended, ended_at, ended_run, first_waiting}
-use Rattle.sq_feed.specs.Dates.{follows, is_ahead, is_beside, is_fit, joined, judged, judged_at, judged_later, longer_run, own, replaced}
+use Rattle.sq_feed.specs.Dates.{follows, goes_on_from, is_ahead, is_beside, is_fit, joined, judged, judged_at, judged_later, longer_run, own, replaced}
 use Rattle.sq_feed.specs.Dates.{run_waiting, shifted, started, timed_all, waiting, waits}
 use Rattle.sq_feed.specs.Clock.{turn}
 use Rattle.sq_feed.specs.Ears.{CountsAtEnd, CountsEach, Hears, clock_judged, clock_one, ear_after, ear_arrived, ear_at}
@@ -65,7 +65,7 @@ replaced_balances t d a b one =
     let count = length (first_waiting d.first) + 3 in
     let beside = waits_balances d (Two a one) (b ∷ []) in
     let joins = waits_balances d (joined t d b one) (a ∷ []) in
-    if_balances (is_beside t d a one.moment) (waits d (Two a one) (b ∷ [])) (waits d (joined t d b one) (a ∷ []))
+    if_balances (goes_on_from t d a b one.moment) (waits d (Two a one) (b ∷ [])) (waits d (joined t d b one) (a ∷ []))
     count (omega (arith, beside)) (omega (arith, joins, joined_two (follows t d b one.moment) b one))
 
 run_balances : (run : Run) (t : Timing) (d : Dates) (arrival : ℕ) (one : Timed)

@@ -1,5 +1,5 @@
 -- The own times of frames: which are believed, and which frames wait until other frames confirm theirs.
-use Rattle.std.specs.Prelude.{◌≡◌, ◌++◌, ◌+◌, ◌-◌, ◌≤◌, ◌||◌, ◌&&◌, ℕ, Bool, true, false, List, [], ◌∷◌, length, min, nat_le, nat_lt, if◌then◌else◌}
+use Rattle.std.specs.Prelude.{◌≡◌, ◌++◌, ◌+◌, ◌-◌, ◌≤◌, ◌||◌, ◌&&◌, ℕ, Bool, true, false, List, [], ◌∷◌, length, min, nat_le, nat_lt, not, if◌then◌else◌}
 use Rattle.sq_feed.specs.declared.dates.Dates.{Dates}
 use Rattle.sq_feed.specs.declared.dates.First.{First}
 use Rattle.sq_feed.specs.declared.dates.First.TheVariants.{NoTime, Waits, Believed}
@@ -148,11 +148,15 @@ confirmed_by t d arrival a b one =
 abbrev pub joined : Timing → Dates → (a one : Timed) → Run
 joined t d a one = if follows t d a one.moment then Two a one else Torn a one
 
--- A third frame that does not confirm two: it takes the place of the second if it is near the first, otherwise that of
--- the first.
+-- A third frame goes on from the first of two: it is near the first, or it follows the first and not the second.
+abbrev pub goes_on_from : Timing → Dates → (a b : Timed) → ℕ → Bool
+goes_on_from t d a b moment = is_beside t d a moment || follows t d a moment && not (follows t d b moment)
+
+-- A third frame that does not confirm two: it takes the place of the second if it goes on from the first, otherwise that
+-- of the first.
 abbrev pub replaced : Timing → Dates → (a b one : Timed) → Judged
 replaced t d a b one =
-    if is_beside t d a one.moment then waits d (Two a one) (b ∷ []) else waits d (joined t d b one) (a ∷ [])
+    if goes_on_from t d a b one.moment then waits d (Two a one) (b ∷ []) else waits d (joined t d b one) (a ∷ [])
 
 -- A frame that jumps joins the frames that wait.
 abbrev pub longer_run : Run → Timing → Dates → (arrival : ℕ) → Timed → Judged
@@ -162,7 +166,7 @@ longer_run (Two a b) t d arrival one =
     if follows t d b one.moment then confirmed_by t d arrival a b one else replaced t d a b one
 longer_run (Torn a b) t d arrival one = replaced t d a b one
 
--- A frame that fits is told, and so is the first frame if it waits. Any other frame jumps.
+-- A frame that fits gets its timestamp, and so does the first frame if it waits. Any other frame jumps.
 abbrev pub judged_later : Timing → Dates → (arrival : ℕ) → Timed → Judged
 judged_later t d arrival one =
     if is_fit t d arrival one.moment then believes d Empty (first_waiting d.first ++ one ∷ []) (run_waiting d.run)
@@ -187,8 +191,8 @@ started d one = record {
 
 -- ---- at the end
 
--- A run that goes ahead is told, and so is one of two frames that goes back. Otherwise the first frame is. Two frames
--- that do not follow each other are left out.
+-- A run that goes ahead gets timestamps, and so does a run of two frames that goes back. A single frame that goes back
+-- is left out, and so are two frames that do not follow each other.
 abbrev pub ended_run : Run → Timing → Dates → Judged
 ended_run Empty t d = believes d Empty (first_waiting d.first) []
 ended_run (One a) t d =
@@ -207,7 +211,7 @@ ended t d = ended_at d.first t d
 
 -- ---- timestamps
 
--- the state after these frames, whose own times are believed
+-- the state after these frames, once their own times are believed
 abbrev pub gone_all : Dates → ℕ → Timing → List Timed → Timing
 gone_all d arrival t [] = t
 gone_all d arrival t (one ∷ more) = gone_all d arrival (gone_on t (own d one.moment) arrival) more

@@ -2,9 +2,10 @@
 --
 -- A start of a Beast message in the first two bytes shows Beast. Otherwise the bytes are read as Beast and as lines of
 -- text at the same time: two Beast messages in a row show Beast, and the first line that can be read shows a text. A
--- log is tried first, then a table. A line that is none of these, but has a frame if it is read as AVR text, shows AVR
--- text: the frame may have a carriage return, spaces or any other text before it. A marked frame at the start of a line
--- shows AVR text at its semicolon. All bytes of the source are then read in that format, from the first one on.
+-- log is tried first, then a table. Two lines that are none of these, but have a frame if they are read as AVR text, show
+-- AVR text: the frame may have a carriage return, spaces or any other text before it. One such line does, if it is a frame
+-- alone, or if no byte shows another format. A marked frame at the start of a line shows AVR text at its semicolon. All
+-- bytes of the source are then read in that format, from the first one on.
 --
 -- Archives, other kinds of text and tables that are not read are remembered, and named only if nothing shows a format
 -- within the first 16,384 bytes, or up to the end of a shorter source: no sign of another kind outweighs a frame. All
@@ -27,12 +28,12 @@ use Rattle.sq_feed.specs.declared.avr.Mark.{Mark}
 use Rattle.sq_feed.specs.declared.rows.Layout.TheVariants.{Log as LogLayout}
 use Rattle.sq_feed.specs.declared.rows.Row.{Row}
 use Rattle.sq_feed.specs.declared.rows.Row.TheVariants.{Blank, Names, One}
-use Rattle.sq_feed.specs.Avr.{avr_found, item_of, mark_of}
+use Rattle.sq_feed.specs.Avr.{avr_found, frame_of_word, item_of, mark_of}
 use Rattle.sq_feed.specs.Begun.{Begun, nothing_begun, rest_of}
 use Rattle.sq_feed.specs.Kinds.{is_mode_s, kind_of}
-use Rattle.sq_feed.specs.Rows.{csv_start, row_read, rows_from, without_mark}
+use Rattle.sq_feed.specs.Rows.{csv_start, row_read, rows_from, without_last, without_mark}
 use Rattle.sq_feed.specs.Stream.{escape, found_in}
-use Rattle.sq_feed.specs.Tables.{is_row_of, unread_table}
+use Rattle.sq_feed.specs.Tables.{holds_mode_s, is_row_behind, unread_table}
 
 -- ---- messages in a row
 
@@ -106,10 +107,18 @@ abbrev pub has_frame : List Found → Bool
 has_frame [] = false
 has_frame (item ∷ more) = is_framed item || has_frame more
 
--- A line with a frame anywhere shows AVR text, unless it is a row with semicolons between its columns. AVR text would
--- read the last column of such a row, without its time.
-abbrev pub text_sign : List ℕ → Sign
-text_sign line = if not (is_row_of 59 line) && has_frame (avr_found line) then Shows Avr else Unclear
+-- A line that has a frame anywhere, if it is read as AVR text. A row with semicolons between its columns and a frame behind
+-- the first one is none: AVR text would read its last column, without its time.
+abbrev pub is_framed_line : List ℕ → Bool
+is_framed_line line = not (is_row_behind 59 line) && has_frame (avr_found line)
+
+-- a line that is a frame, without a mark or a time
+abbrev pub is_bare_line : List ℕ → Bool
+is_bare_line line = holds_mode_s (frame_of_word (without_last 13 (without_mark line)))
+
+-- A bare frame shows AVR text, and so does the second line with a frame. The first may be a damaged line of a log.
+abbrev pub text_sign : (is_framed : Bool) → List ℕ → Sign
+text_sign is_framed line = if is_framed_line line && (is_framed || is_bare_line line) then Shows Avr else Unclear
 
 -- a line of SBS (BaseStation) text
 abbrev pub is_sbs : List ℕ → Bool
@@ -128,11 +137,11 @@ other_sign line =
     if is_sbs line then Other Sbs
     else (if bytes_eq (take 1 line) (codes "{") then Other Json else told_sign (unread_table line))
 
--- the sign of a whole line, without its line feed
-unfoldable pub line_sign : List ℕ → Sign
-line_sign line =
+-- the sign of a whole line, without its line feed; an earlier line has a frame, or none has
+unfoldable pub line_sign : (is_framed : Bool) → List ℕ → Sign
+line_sign is_framed line =
     first_shown (sign_of_line (row_read LogLayout line)) (first_shown (sign_of_row (row_read csv_start line))
-    (first_shown (text_sign line) (other_sign (without_mark line))))
+    (first_shown (text_sign is_framed line) (other_sign (without_mark line))))
 
 -- ---- the first bytes
 
@@ -172,14 +181,16 @@ start_sign start =
 
 -- ---- the text so far
 
--- the unfinished line, the number of bytes, and the first kind of source without frames that was seen
+-- the unfinished line; the number of bytes; whether an earlier line has a frame, if it is read as AVR text; and the
+-- first kind of source without frames that was seen
 pub record Lines : Type 0 where
   pub line : List ℕ
   pub count : ℕ
+  pub is_framed : Bool
   pub stranger : Option Stranger
 
 abbrev pub no_lines : Lines
-no_lines = record { line = []; count = 0; stranger = None }
+no_lines = record { line = []; count = 0; is_framed = false; stranger = None }
 
 -- the line after a byte
 abbrev pub line_after : List ℕ → ℕ → List ℕ
@@ -188,7 +199,7 @@ line_after line byte = if byte == 10 then [] else line ++ byte ∷ []
 -- the sign of a byte after the text so far
 abbrev pub byte_sign : Lines → ℕ → Sign
 byte_sign text byte =
-    if byte == 10 then line_sign text.line
+    if byte == 10 then line_sign text.is_framed text.line
     else (if byte == 59 then marked_sign text.line
     else (if length text.line == text.count then start_sign (text.line ++ byte ∷ []) else Unclear))
 
@@ -199,10 +210,15 @@ remembered None (Other stranger) = Some stranger
 remembered None Unclear = None
 remembered None (Shows format) = None
 
+-- a line with a frame has ended, now or before
+abbrev pub framed_after : Lines → ℕ → Bool
+framed_after text byte = text.is_framed || (byte == 10) && is_framed_line text.line
+
 abbrev pub lines_after : Lines → ℕ → Lines
 lines_after text byte = record {
   line = line_after text.line byte;
   count = text.count + 1;
+  is_framed = framed_after text byte;
   stranger = remembered text.stranger (byte_sign text byte);
 }
 
@@ -217,19 +233,27 @@ named None = NoFrame
 abbrev pub limit : ℕ
 limit = 16384
 
--- what a source without a format is whose last line has this sign
+-- the sign of the unfinished line, as it is: one line with a frame is enough
+abbrev pub begun_sign : Lines → Sign
+begun_sign text = line_sign true text.line
+
+-- what a source without a format is, by the sign of its last line
 abbrev pub named_after : Option Stranger → Sign → Sign
 named_after stranger last = Other (named (remembered stranger last))
+
+-- what a source is that no byte shows: AVR text, if a line has a frame
+abbrev pub named_text : Lines → Sign
+named_text text = if text.is_framed then Shows Avr else named_after text.stranger (begun_sign text)
 
 -- the sign of a source that ends here: its last line may lack its line feed, and one message is enough for Beast
 abbrev pub last_sign : ℕ → Lines → Sign
 last_sign messages text =
-    first_shown (line_sign text.line) (if nat_le 1 messages then Shows Beast
-    else (if text.count == 0 then Unclear else named_after text.stranger (line_sign text.line)))
+    first_shown (begun_sign text) (if nat_le 1 messages then Shows Beast
+    else (if text.count == 0 then Unclear else named_text text))
 
 -- the sign at the limit: the line that has begun counts as it is
 abbrev pub limit_sign : Lines → Sign
-limit_sign text = first_shown (line_sign text.line) (named_after text.stranger (line_sign text.line))
+limit_sign text = first_shown (begun_sign text) (named_text text)
 
 -- the sign of a source that goes on, up to the limit
 abbrev pub sign_within : Lines → Sign → Sign

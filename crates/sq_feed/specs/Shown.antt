@@ -1,5 +1,5 @@
 -- A source in a known format is found without a format being given.
-use Rattle.std.specs.Prelude.{◌≡◌, ◌≢◌, ◌<◌, ◌≤◌, ◌++◌, true, false, ℕ, List, ◌∷◌, length}
+use Rattle.std.specs.Prelude.{◌≡◌, ◌≢◌, ◌<◌, ◌≤◌, ◌+◌, ◌++◌, true, false, ℕ, List, [], ◌∷◌, length}
 use Rattle.std.specs.List.{AllByRecursion, flat_map}
 use Rattle.sq_feed.specs.declared.machine.Format.{Format}
 use Rattle.sq_feed.specs.declared.rows.Layout.TheVariants.{Log as LogLayout}
@@ -11,7 +11,7 @@ use Rattle.sq_feed.specs.Kinds.{kind_of}
 use Rattle.sq_feed.specs.Laws.{AreSent, Sent, sent_bytes, sent_messages}
 use Rattle.sq_feed.specs.Rows.{csv_start, longest, row_read}
 use Rattle.sq_feed.specs.Stream.{escape, found_in}
-use Rattle.sq_feed.specs.Tables.{is_row_of}
+use Rattle.sq_feed.specs.Tables.{is_row_behind}
 
 -- A source that begins with the start of a Beast message is read as Beast, whatever follows.
 abbrev pub BeastIsShown : Type 0
@@ -44,14 +44,21 @@ pub record IsAvrLine (line : List ℕ) : Type 0 where
   pub plain : AllByRecursion (λ byte. byte ≢ escape) line
   pub no_log : sign_of_line (row_read LogLayout line) ≡ Unclear
   pub no_row : sign_of_row (row_read csv_start line) ≡ Unclear
-  pub no_semicolons : is_row_of 59 line ≡ false
+  pub no_semicolons : is_row_behind 59 line ≡ false
   pub framed : has_frame (avr_found line) ≡ true
 
--- A source that begins with such a line is read as AVR text, whatever follows.
+-- A source of one such line is read as AVR text.
 abbrev pub AvrLineIsShown : Type 0
-AvrLineIsShown = (line more : List ℕ) → IsAvrLine line → any_found (line ++ 10 ∷ more) ≡ avr_found (line ++ 10 ∷ more)
+AvrLineIsShown = (line : List ℕ) → IsAvrLine line → any_found (line ++ 10 ∷ []) ≡ avr_found (line ++ 10 ∷ [])
+
+-- A source that begins with two such lines is read as AVR text, whatever follows.
+abbrev pub AvrLinesAreShown : Type 0
+AvrLinesAreShown = (line second more : List ℕ) → IsAvrLine line → IsAvrLine second
+    → length line + length second + 1 < limit
+    → any_found (line ++ 10 ∷ (second ++ 10 ∷ more)) ≡ avr_found (line ++ 10 ∷ (second ++ 10 ∷ more))
 
 -- A source that begins with a line of a format is read in that format, whatever follows.
 abbrev pub LineIsShown : Type 0
-LineIsShown = (line more : List ℕ) (format : Format) → IsTextLine line → line_sign line ≡ Shows format
+LineIsShown = (line more : List ℕ) (format : Format) → IsTextLine line
+    → line_sign false line ≡ Shows format
     → any_found (line ++ 10 ∷ more) ≡ items_from format (line ++ 10 ∷ more)

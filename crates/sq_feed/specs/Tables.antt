@@ -2,7 +2,7 @@
 --
 -- A table that is read has commas between its columns. Its first row names a column with the time and the column
 -- rawmsg; without such a row, the first column has the time in seconds, and the third one the frame.
-use Rattle.std.specs.Prelude.{◌==◌, ◌++◌, ◌||◌, ◌&&◌, ℕ, Bool, true, false, not, List, [], ◌∷◌, length, codes}
+use Rattle.std.specs.Prelude.{◌==◌, ◌++◌, ◌+◌, ◌||◌, ◌&&◌, ℕ, Bool, true, false, not, List, [], ◌∷◌, drop, length, codes}
 use Rattle.std.specs.Prelude.{Option, Some, None, nat_le, nat_lt, if◌then◌else◌}
 use Rattle.sq_feed.specs.declared.message.Stranger.{Stranger}
 use Rattle.sq_feed.specs.declared.message.Stranger.TheVariants.{Semicolons, Tabs, NoTime, NoRawmsg, NoSeconds, NoNames}
@@ -29,10 +29,15 @@ frame_cell_from separator cell (byte ∷ more) =
     if byte == separator then is_frame_cell cell || frame_cell_from separator [] more
     else frame_cell_from separator (cell ++ byte ∷ []) more
 
--- a row with this byte between its columns, one of which has frames
+-- a row with this byte between its columns, and a frame in one of them
 abbrev pub is_row_of : ℕ → List ℕ → Bool
 is_row_of separator row =
     nat_lt (position_of separator row) (length row) && frame_cell_from separator [] row
+
+-- a row with this byte between its columns, and a frame behind the first of them
+abbrev pub is_row_behind : ℕ → List ℕ → Bool
+is_row_behind separator row = nat_lt (position_of separator row) (length row)
+    && frame_cell_from separator [] (drop (position_of separator row + 1) row)
 
 -- ---- rows with commas
 

@@ -54,7 +54,7 @@ abbrev pub is_clockless : Timing → ℕ → Bool
 is_clockless t ticks = ticks == 0 || t.ignores_clock
 
 -- A live source cannot be ahead of its arrivals. If its timestamps are, by more than a leap, then it is a recording, or
--- its clock is none of 12 MHz.
+-- its clock does not run at 12 MHz.
 abbrev pub is_ahead_of_arrivals : Timing → Bool
 is_ahead_of_arrivals t = t.is_live && nat_lt (t.arrival + t.leap) t.latest
 
@@ -63,12 +63,12 @@ is_ahead_of_arrivals t = t.is_live && nat_lt (t.arrival + t.leap) t.latest
 abbrev pub beyond : Timing → ℕ
 beyond t = min (t.latest + t.leap + 1) most
 
--- The timestamp at which a clock goes on that has started again: by the arrival in a live source, otherwise beyond a
--- leap.
+-- The timestamp at which a clock goes on after it has started again: by the arrival in a live source, otherwise beyond
+-- a leap.
 abbrev pub resumed : Timing → ℕ → ℕ
 resumed t arrival = if t.is_live && not (is_ahead_of_arrivals t) then due t arrival else beyond t
 
--- The timestamp at which times start again that went back.
+-- The timestamp at which times go on after a step back.
 abbrev pub anew_of : Timing → ℕ → ℕ
 anew_of t arrival = if t.clock.is_heard then resumed t arrival else beyond t
 
@@ -85,7 +85,7 @@ clock_at t shown arrival = if t.clock.is_heard then t.clock else counted_at show
 abbrev pub clock_time : Timing → (shown arrival : ℕ) → ℕ
 clock_time t shown arrival = count_of (clock_at t shown arrival) shown / rate
 
--- the state after a frame with this value, whose time is believed
+-- the state after a frame with this value, once its time is believed
 abbrev pub clocked : Timing → (shown arrival : ℕ) → Timing
 clocked t shown arrival = record t { clock = followed (clock_at t shown arrival) shown }
 

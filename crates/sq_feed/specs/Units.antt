@@ -42,9 +42,9 @@ one_gap g gap = record {
 
 -- ---- squitters
 
--- What is kept of squitters: how many were heard; the first and the latest timestamp, and whether any is not 0; in
--- which of 32 parts of 2^30 ticks at 12 MHz timestamps lie, with 1, and in how many; for each number of eight bits the
--- aircraft that is watched, or 0, and its latest timestamp; and the gaps of these aircraft.
+-- The state: how many squitters were heard; the first and the latest timestamp, and whether any is not 0; a 1 for each
+-- of 32 parts of 2^30 ticks (12 MHz) that has timestamps, and the number of these parts; for each number of eight bits,
+-- the aircraft that is watched, or 0, and its latest timestamp; and the gaps of these aircraft.
 pub record Watched : Type 0 where
   pub heard : ℕ
   pub first : ℕ

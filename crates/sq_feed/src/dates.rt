@@ -1,7 +1,7 @@
 //! The own times of frames: which are believed, and which frames wait until other frames confirm theirs.
 ghost use Rattle.std.specs.Prelude.{◌≡◌, ◌++◌, ◌≤◌, [], ◌∷◌, if◌then◌else◌, length, option_to_list};
 ghost use Rattle.sq_feed.specs.Dates.{IsVerdict, base_of, confirmed, confirmed_by, ended, ended_run, first_waiting, follows};
-ghost use Rattle.sq_feed.specs.Dates.{is_ahead, is_beside, is_calm, is_empty_run, is_fit, is_shown_at, is_timed, joined, judged};
+ghost use Rattle.sq_feed.specs.Dates.{goes_on_from, is_ahead, is_beside, is_calm, is_empty_run, is_fit, is_shown_at, is_timed, joined, judged};
 ghost use Rattle.sq_feed.specs.Dates.{judged_later, longer_run, new_dates, own, replaced, run_waiting, shifted, started, waiting};
 
 use crate::message::Timed;
@@ -89,9 +89,8 @@ impl Dates {
         moment.saturating_add(self.ahead)
     }
 
-    /// Returns whether a time follows the last one that is believed by at most a leap, or is late by no more than
-    /// frames may be, or is that which the arrivals of a live source show. Before any is believed, the first frame's
-    /// time stands for it.
+    /// Returns whether a time follows the latest believed time by at most a leap, is late by no more than frames may
+    /// be, or agrees with the arrivals of a live source. Until a time is believed, the first frame's time is compared.
     #[inline(always)]
     pub(crate) fn is_fit(&self, times: &Times, arrival: u64, moment: u64) -> bool
         ensures { result ≡ is_fit times.now self.now arrival moment }
@@ -200,17 +199,26 @@ impl Dates {
         }
     }
 
-    // Takes a third frame that does not confirm two: in place of the second if it is near the first, otherwise in place
-    // of the first.
+    // Takes a third frame that does not confirm two: in place of the second if it goes on from the first, otherwise in
+    // place of the first.
     fn replace(&mut self, times: &Times, a: Timed, b: Timed, one: Timed) -> Verdict
         ensures { IsVerdict (replaced times.now self.old a b one) result self.new }
     {
-        let run = if self.is_beside(times, &a, one.moment) {
+        let run = if self.goes_on_from(times, &a, &b, one.moment) {
             Run::Two(a, one)
         } else {
             self.joined(times, b, one)
         };
         self.wait(run, 1)
+    }
+
+    // Returns whether a time goes on from the first of two frames: it is near the first, or it follows the first and not
+    // the second.
+    fn goes_on_from(&self, times: &Times, a: &Timed, b: &Timed, moment: u64) -> bool
+        ensures { result ≡ goes_on_from times.now self.now a.now b.now moment }
+    {
+        self.is_beside(times, a, moment)
+            || self.follows(times, a, moment) && !self.follows(times, b, moment)
     }
 
     // Keeps a run that waits. So many frames are left out.
@@ -223,7 +231,7 @@ impl Dates {
         Verdict::without(aside)
     }
 
-    // Believes two frames of a run, since a third one follows them. If its time is near, it is told with them.
+    // Believes two frames of a run, since a third one follows them. If its time is near, it is returned with them.
     fn confirm_by(&mut self, times: &Times, arrival: u64, a: Timed, b: Timed, one: Timed) -> Verdict
         ensures { IsVerdict (confirmed_by times.now self.old arrival a b one) result self.new }
     {
@@ -284,7 +292,8 @@ impl Dates {
         verdict
     }
 
-    // Believes the times of a run. The first frame is told with one that goes ahead, and left out if it goes back.
+    // Believes the times of a run. A run that goes ahead is returned with the source's first frame, and one that goes
+    // back without it.
     fn confirm(&mut self, times: &Times, arrival: u64, a: Timed, b: Timed) -> Verdict
         ensures { IsVerdict (confirmed times.now self.old arrival a (a ∷ b ∷ []) Run.Empty) result self.new }
     {
@@ -317,7 +326,7 @@ impl Dates {
         self.first = First::Believed;
     }
 
-    // Adds to own times what a run that goes back is before the timestamp at which it starts anew.
+    // Adds the distance from a run that goes back to the timestamp at which it starts anew to all later times.
     fn shift(&mut self, times: &Times, arrival: u64, one: &Timed)
         ensures { self.new ≡ shifted times.now self.old arrival one.now }
     {

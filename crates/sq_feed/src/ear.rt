@@ -1,5 +1,5 @@
 //! What becomes of each item: a squitter with its timestamp, or a count.
-ghost use Rattle.std.specs.Prelude.{◌≡◌, ◌≤◌, ◌%◌, ◌^◌, ◌+◌, ◌++◌, [], ◌∷◌, Bool, MatchOption, None, false, if◌then◌else◌, length, true};
+ghost use Rattle.std.specs.Prelude.{◌≡◌, ◌≤◌, ◌%◌, ◌^◌, ◌+◌, ◌++◌, [], ◌∷◌, Bool, List, MatchOption, None, ℕ, false, if◌then◌else◌, length, true};
 ghost use Rattle.sq_feed.specs.Counts.{counted_rows};
 ghost use Rattle.sq_feed.specs.Dates.{HasRoom, IsVerdict, gone_all, judged, started, timed_all, waiting};
 ghost use Rattle.sq_feed.specs.Ears.{clock_judged, ear_after, ear_arrived, ear_at, ear_clocked, ear_ended, ear_judged, fate_of};
@@ -154,7 +154,42 @@ impl Ear {
         self.times.restart();
     }
 
-    // Hears a message that arrived at `arrival` (ms). Most are squitters of a receiver, and take a short path.
+    /// Hears an extended squitter whose timestamp waits for no other frame, as most do, and returns it. Any other
+    /// message changes nothing. A short way, so that the squitter goes from the source's bytes into its slot.
+    #[inline(always)]
+    pub(crate) fn hear_next(&mut self, message: &Message, arrival: u64) -> Option<Timed>
+        ensures { MatchOption result (self.new ≡ self.old)
+            (λ one. (self.new ≡ ear_after arrival self.old (Found.Whole message.now))
+            × (told_of arrival self.old (Found.Whole message.now) ≡ one ∷ [])) }
+    {
+        match message.frame {
+            RawFrame::Long(frame) => self.hear_squitter(message.time, frame, arrival),
+            RawFrame::Short(_) => None,
+            RawFrame::ModeAc(_) => None,
+        }
+    }
+
+    // Does what `hear_next` does, for a long frame.
+    #[inline(always)]
+    fn hear_squitter(&mut self, time: Time, frame: [u8; 14], arrival: u64) -> Option<Timed>
+        ensures { MatchOption result (self.new ≡ self.old)
+            (λ one. (fate_of_long self.old.all_formats time frame ≡ None)
+            × (self.new ≡ ear_at time arrival self.old frame)
+            × (told_at time arrival self.old frame ≡ one ∷ [])) }
+    {
+        if !is_squitter(&frame) {
+            return None;
+        }
+        let moment = match time {
+            Time::Unknown => None,
+            Time::Ticks(MULTILATERATED) => None,
+            Time::Ticks(ticks) => self.follow_clock(ticks, arrival),
+            Time::Millis(moment) => self.follow_row(moment, arrival),
+        }?;
+        Some(Timed { moment, frame })
+    }
+
+    /// Hears a message that arrived at `arrival` (ms).
     #[inline(always)]
     pub(crate) fn hear_message(
         &mut self,
@@ -162,24 +197,6 @@ impl Ear {
         arrival: u64,
         ready: &mut Ready,
     ) -> Option<u64>
-        requires { length ready.old.items + length (waiting self.old.dates) ≤ 3 }
-        ensures kept { self.new ≡ ear_after arrival self.old (Found.Whole message.now) }
-        ensures told { MatchOption result
-            (ready.new.items ≡ ready.old.items ++ told_of arrival self.old (Found.Whole message.now))
-            (λ moment. (ready.new ≡ ready.old) × (told_of arrival self.old (Found.Whole message.now)
-            ≡ record { moment = moment; frame = whole_of message.now.frame } ∷ [])) }
-        ensures room { HasRoom ready.new.items self.new.dates }
-    {
-        if is_squitter(&message.frame) && !is_multilaterated(message.time) {
-            self.hear_timed(message, arrival, ready)
-        } else {
-            self.hear_any(message, arrival, ready)
-        }
-    }
-
-    // Does what `hear_message` does, whatever the message. Inlined, so that no message is stored for a call.
-    #[inline(always)]
-    fn hear_any(&mut self, message: &Message, arrival: u64, ready: &mut Ready) -> Option<u64>
         requires { length ready.old.items + length (waiting self.old.dates) ≤ 3 }
         ensures kept { self.new ≡ ear_after arrival self.old (Found.Whole message.now) }
         ensures told { MatchOption result
@@ -231,7 +248,29 @@ impl Ear {
         self.times.hear_arrival(arrival)
     }
 
-    // Hears a frame with a clock. Most follow the latest timestamp within a leap, and no frame waits.
+    // Takes the value of a clock that has started, while no frame waits, if its time follows the latest timestamp by at
+    // most a leap. Returns the timestamp. Any other value changes nothing.
+    #[inline(always)]
+    fn follow_clock(&mut self, ticks: u64, arrival: u64) -> Option<u64>
+        ensures same { self.new.dates ≡ self.old.dates }
+        ensures heard { MatchOption result (self.new ≡ self.old) (λ moment. (frame : List ℕ)
+            → (self.new ≡ ear_at (Time.Ticks ticks) arrival self.old frame)
+            × (told_at (Time.Ticks ticks) arrival self.old frame ≡ record { moment = moment; frame = frame } ∷ [])) }
+    {
+        if self.times.is_clockless(ticks) || !self.dates.is_calm() || !self.times.has_clock() {
+            return None;
+        }
+        let count = self.times.count(ticks);
+        let moment = self.dates.own(count / RATE);
+        if !self.times.follows(moment) {
+            return None;
+        }
+        self.counts.count_rows(1, 0);
+        self.times.advance(ticks, count, moment, arrival);
+        Some(moment)
+    }
+
+    // Hears a frame with a clock.
     #[inline(always)]
     fn hear_clock(
         &mut self,
@@ -249,14 +288,8 @@ impl Ear {
             ≡ record { moment = told; frame = whole_of frame.now } ∷ [])) }
         ensures room { HasRoom ready.new.items self.new.dates }
     {
-        if self.dates.is_calm() && self.times.has_clock() {
-            let count = self.times.count(ticks);
-            let moment = self.dates.own(count / RATE);
-            if self.times.follows(moment) {
-                self.counts.count_rows(1, 0);
-                self.times.advance(ticks, count, moment, arrival);
-                return Some(moment);
-            }
+        if let Some(moment) = self.follow_clock(ticks, arrival) {
+            return Some(moment);
         }
         let frame = whole_of(frame);
         self.hear_clock_jump(ticks, frame, arrival, ready);
@@ -304,7 +337,23 @@ impl Ear {
         }
     }
 
-    // Hears a row with its own time (ms). Most fit, and no frame waits.
+    // Takes the time (ms) of a row that fits, while no frame waits. Returns the timestamp. Any other time changes
+    // nothing.
+    #[inline(always)]
+    fn follow_row(&mut self, moment: u64, arrival: u64) -> Option<u64>
+        ensures same { self.new.dates ≡ self.old.dates }
+        ensures heard { MatchOption result (self.new ≡ self.old) (λ told. (frame : List ℕ)
+            → (self.new ≡ ear_at (Time.Millis moment) arrival self.old frame)
+            × (told_at (Time.Millis moment) arrival self.old frame ≡ record { moment = told; frame = frame } ∷ [])) }
+    {
+        if self.dates.is_calm() && self.dates.is_fit(&self.times, arrival, moment) {
+            self.counts.count_rows(1, 0);
+            return Some(self.times.go_on(self.dates.own(moment), arrival));
+        }
+        None
+    }
+
+    // Hears a row with its own time (ms).
     #[inline(always)]
     fn hear_row(
         &mut self,
@@ -321,9 +370,8 @@ impl Ear {
             ≡ record { moment = told; frame = whole_of frame.now } ∷ [])) }
         ensures room { HasRoom ready.new.items self.new.dates }
     {
-        if self.dates.is_calm() && self.dates.is_fit(&self.times, arrival, moment) {
-            self.counts.count_rows(1, 0);
-            return Some(self.times.go_on(self.dates.own(moment), arrival));
+        if let Some(told) = self.follow_row(moment, arrival) {
+            return Some(told);
         }
         let frame = whole_of(frame);
         self.note_row();
@@ -473,17 +521,13 @@ fn fate_of_long(all_formats: bool, time: Time, frame: &[u8; 14]) -> Option<Fate>
     }
 }
 
-// Returns whether a frame is an extended squitter.
+// Returns whether a long frame is an extended squitter.
 #[inline(always)]
-fn is_squitter(frame: &RawFrame) -> bool
+fn is_squitter(frame: &[u8; 14]) -> bool
     ensures { result ≡ true → (all : Bool) (time : Time) → is_multilaterated time ≡ false
-        → fate_of all time frame.now ≡ None }
+        → fate_of_long all time frame.now ≡ None }
 {
-    match frame {
-        RawFrame::Long(frame) => frame[0] >> 3 == SQUITTER,
-        RawFrame::Short(_) => false,
-        RawFrame::ModeAc(_) => false,
-    }
+    frame[0] >> 3 == SQUITTER
 }
 
 // Returns whether a server computed this time by multilateration.

@@ -208,6 +208,10 @@ impl Feed {
         ensures kept { result ≡ false → into.new ≡ into.old }
         ensures few { length self.new.ready ≤ 3 }
     {
+        if let Some(one) = self.ear.hear_next(message, arrival) {
+            *into = one;
+            return true;
+        }
         match self.ear.hear_message(message, arrival, &mut self.ready) {
             Some(moment) => {
                 into.moment = moment;

@@ -1,12 +1,12 @@
 //! Finds the format of a source by its first bytes, and keeps them.
-ghost use Rattle.std.specs.Prelude.{◌≡◌, ◌==◌, ◌++◌, ◌+◌, ◌<◌, ◌≤◌, ℕ, List, [], ◌∷◌, if◌then◌else◌, length, nat_lt, option_to_list, take};
-ghost use Rattle.sq_feed.specs.Finding.{HasShown, beast_of, byte_sign, in_turn, in_turn_after, limit, limit_sign};
-ghost use Rattle.sq_feed.specs.Finding.{named, named_after, nothing_seen, remembered, shown_after};
+ghost use Rattle.std.specs.Prelude.{◌≡◌, ◌==◌, ◌++◌, ◌||◌, ◌&&◌, ◌+◌, ◌-◌, ◌<◌, ◌≤◌, ℕ, List, [], ◌∷◌, if◌then◌else◌, length, nat_lt, option_to_list, take};
+ghost use Rattle.sq_feed.specs.Finding.{HasShown, beast_of, begun_sign, byte_sign, in_turn, in_turn_after, is_framed_line};
+ghost use Rattle.sq_feed.specs.Finding.{limit, limit_sign, named, named_after, nothing_seen, remembered, shown_after};
 
 use crate::beast::Beast;
 use crate::machine::Format;
 use crate::message::{Found, Stranger};
-use crate::signs::{Sign, first_shown, last_byte_sign, line_sign};
+use crate::signs::{Sign, first_shown, is_framed_line, last_byte_sign, line_sign};
 use arrayvec::ArrayVec;
 use std::marker::Model;
 
@@ -24,6 +24,7 @@ pub(crate) struct Finder {
     held: ArrayVec<u8, LIMIT>,
     // Where the unfinished line begins.
     line: usize,
+    is_framed: bool,
     stranger: Option<Stranger>,
 }
 
@@ -39,6 +40,7 @@ impl Model for Finder {
       text = record {
         line = drop s.line s.held.items;
         count = length s.held.items;
+        is_framed = s.is_framed;
         stranger = s.stranger;
       };
       held = s.held.items;
@@ -57,6 +59,7 @@ impl Finder {
             count: 0,
             held: ArrayVec::new(),
             line: 0,
+            is_framed: false,
             stranger: None,
         }
     }
@@ -87,15 +90,34 @@ impl Finder {
     pub(crate) fn finish(&self) -> Sign
         ensures { result ≡ shown_after self.now [] }
     {
-        let last = line_sign(&self.held.as_slice()[self.line..]);
+        let last = self.begun_sign();
         let otherwise = if self.messages() >= 1 {
             Sign::Shows(Format::Beast)
         } else if self.held.is_empty() {
             Sign::Unclear
         } else {
-            named_after(self.stranger, last)
+            self.named_text(last)
         };
         first_shown(last, otherwise)
+    }
+
+    // Returns the sign of the unfinished line, as it is.
+    fn begun_sign(&self) -> Sign
+        ensures { result ≡ begun_sign self.now.text }
+    {
+        line_sign(true, &self.held.as_slice()[self.line..])
+    }
+
+    // Returns what a source is that no byte shows, by the sign of its unfinished line.
+    fn named_text(&self, last: Sign) -> Sign
+        ensures { result ≡ (if self.now.text.is_framed then Sign.Shows Format.Avr
+            else named_after self.now.text.stranger last) }
+    {
+        if self.is_framed {
+            Sign::Shows(Format::Avr)
+        } else {
+            named_after(self.stranger, last)
+        }
     }
 
     // Returns all bytes that it has taken.
@@ -163,20 +185,25 @@ impl Finder {
     {
         self.held.push(byte);
         let line = &self.held.as_slice()[self.line..];
-        last_byte_sign(line, byte, self.line == 0)
+        last_byte_sign(line, byte, self.is_framed, self.line == 0)
     }
 
-    // Ends the line at a line feed, and remembers what the sign of the byte names.
+    // Ends the line at a line feed, and remembers what the sign of the byte names. The line has the byte already.
     fn end_byte(&mut self, byte: u8, sign: Sign)
+        requires { 0 < length self.old.text.line }
         ensures beast { (self.new.beast ≡ self.old.beast) × (self.new.count ≡ self.old.count) }
         ensures held { self.new.held ≡ self.old.held }
         ensures text { self.new.text ≡ record self.old.text {
           line = if byte == 10 then [] else self.old.text.line;
+          is_framed = self.old.text.is_framed
+            || (byte == 10) && is_framed_line (take (length self.old.text.line - 1) self.old.text.line);
           stranger = remembered self.old.text.stranger sign;
         } }
         ensures count { self.new.text.count ≡ length self.new.held }
     {
         if byte == b'\n' {
+            let line = &self.held.as_slice()[self.line..];
+            self.is_framed = self.is_framed || is_framed_line(&line[..line.len() - 1]);
             self.line = self.held.len();
         }
         self.stranger = remembered(self.stranger, sign);
@@ -187,8 +214,8 @@ impl Finder {
         ensures { result ≡ (if length self.now.held == limit then limit_sign self.now.text else Sign.Unclear) }
     {
         if self.held.len() == LIMIT {
-            let last = line_sign(&self.held.as_slice()[self.line..]);
-            first_shown(last, named_after(self.stranger, last))
+            let last = self.begun_sign();
+            first_shown(last, self.named_text(last))
         } else {
             Sign::Unclear
         }
@@ -219,7 +246,7 @@ fn remembered(stranger: Option<Stranger>, sign: Sign) -> Option<Stranger>
     }
 }
 
-// Returns what a source without a format is whose last line has this sign.
+// Returns what a source without a format is, by the sign of its last line.
 fn named_after(stranger: Option<Stranger>, last: Sign) -> Sign
     ensures { result ≡ named_after stranger last }
 {

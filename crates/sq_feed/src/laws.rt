@@ -2,7 +2,8 @@
 ghost use Rattle.std.specs.Prelude.{true};
 ghost use Rattle.sq_feed.specs.Laws.{GivesTheStream, Sent, SentIsFound};
 ghost use Rattle.sq_feed.specs.Laws.{SentIsFoundAnywhere, StartSplits};
-ghost use Rattle.sq_feed.specs.Shown.{AvrLineIsShown, BeastIsShown, LineIsShown, SentBeastIsShown, SentTextIsShown};
+ghost use Rattle.sq_feed.specs.Shown.{AvrLineIsShown, AvrLinesAreShown, BeastIsShown, LineIsShown, SentBeastIsShown};
+ghost use Rattle.sq_feed.specs.Shown.{SentTextIsShown};
 ghost use Rattle.sq_feed.specs.Avr.{BareFrameIsFound, SentFrameIsFound};
 ghost use Rattle.sq_feed.specs.Ears.{CountsAtEnd, CountsEach, StaysNear, StaysNearAtEnd};
 ghost use Rattle.sq_feed.specs.Feeds.{FeedsBoth, FeedsGoOn, FeedsTheWhole};
@@ -25,6 +26,7 @@ pub fn sent_is_shown()
     ensures beast { SentBeastIsShown }
     ensures text { SentTextIsShown }
     ensures anywhere { AvrLineIsShown }
+    ensures in_turn { AvrLinesAreShown }
     ensures line { LineIsShown }
 {}
 

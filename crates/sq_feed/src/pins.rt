@@ -19,7 +19,7 @@ ghost use Rattle.sq_feed.specs.Kinds.{frame_len, message_len};
 ghost use Rattle.sq_feed.specs.Readers.{HasClosed, HasEnded, IsEnding, IsNew, Reads, awaited, calls_left, items_as};
 ghost use Rattle.sq_feed.specs.Readers.{lost_items};
 ghost use Rattle.sq_feed.specs.Shown.{IsAvrLine, IsTextLine};
-ghost use Rattle.sq_feed.specs.Tables.{is_row_of, unread_table};
+ghost use Rattle.sq_feed.specs.Tables.{is_row_behind, unread_table};
 ghost use Rattle.std.specs.List.{AllByRecursion};
 ghost use Rattle.sq_feed.specs.Clock.{AreNearby, Counted, HasCounted, count_of, counted_at, counts_of};
 ghost use Rattle.sq_feed.specs.Rows.{BegunRow, IsHeld, csv_start, row_read, rows_from};
@@ -93,7 +93,7 @@ pub fn counts_in_numbers()
     ensures forward { count_of (counted_at 5 (2 ^ 48)) (5 + 2 ^ 47 - 1) ≡ 2 ^ 48 + 2 ^ 47 - 1 }
     ensures back { count_of (counted_at 5 (2 ^ 48)) (5 + 2 ^ 47) ≡ 2 ^ 47 }
     ensures zero { count_of (counted_at 5 5) 0 ≡ 0 }
-    ensures below { count_of (counted_at 5 4) 0 ≡ 0 }
+    ensures below { count_of (counted_at 5 4) 0 ≡ 2 ^ 48 - 1 }
     ensures most { count_of (counted_at 5 (2 ^ 64 - 2)) 9 ≡ 2 ^ 64 - 1 }
 {}
 
@@ -142,6 +142,8 @@ pub fn rows_in_times()
         ≡ 1000 ∷ 1001 ∷ 3602001 ∷ 3602002 ∷ 3602003 ∷ [] }
     ensures third { row_times (1000 ∷ 1001 ∷ 3602001 ∷ 3603000 ∷ 90000000 ∷ 3604000 ∷ [])
         ≡ 1000 ∷ 1001 ∷ 3602001 ∷ 3603000 ∷ 3604000 ∷ [] }
+    ensures sparse { row_times (1000 ∷ 1001 ∷ 3602001 ∷ 90000000 ∷ 7203001 ∷ 7203002 ∷ [])
+        ≡ 1000 ∷ 1001 ∷ 3602001 ∷ 7203001 ∷ 7203002 ∷ [] }
     ensures torn { row_times (1000 ∷ 1001 ∷ 90000000 ∷ 80000000 ∷ []) ≡ 1000 ∷ 1001 ∷ [] }
     ensures two { row_times (1000 ∷ 2000 ∷ 602001 ∷ 3000 ∷ []) ≡ 1000 ∷ 2000 ∷ 3000 ∷ [] }
     ensures back { row_times (9000000 ∷ 9001000 ∷ 5000 ∷ 6000 ∷ 7000 ∷ [])
@@ -149,10 +151,11 @@ pub fn rows_in_times()
     ensures late { row_times (5000 ∷ 6000 ∷ 5000 ∷ 4999 ∷ 7000 ∷ []) ≡ 5000 ∷ 6000 ∷ 6000 ∷ 7000 ∷ [] }
 {}
 
-/// The timestamps of frames with a clock, which wait and are told as rows are, but for the first. In a live source, the
-/// first is that of the arrival, and a clock that starts again goes on by the arrival.
+/// The timestamps of frames with a clock. These wait and are confirmed as rows are, but the first frame does not wait. In
+/// a live source, the first timestamp is the arrival, and a clock that starts again goes on by the arrival.
 pub fn clocks_in_times()
     ensures wild { clock_times (1000 ∷ 3601000 ∷ 1100 ∷ 1200 ∷ []) ≡ 1000 ∷ 1100 ∷ 1200 ∷ [] }
+    ensures below { clock_times (500 ∷ 15000000000 ∷ 600 ∷ 700 ∷ []) ≡ 500 ∷ 600 ∷ 700 ∷ [] }
     ensures first { clock_times (90000000 ∷ 1000 ∷ 2000 ∷ 3000 ∷ [])
         ≡ 90000000 ∷ 90600001 ∷ 90601001 ∷ 90602001 ∷ [] }
     ensures night { clock_times (1000 ∷ 90001000 ∷ 180001000 ∷ 180002000 ∷ [])
@@ -184,7 +187,7 @@ pub fn lines_exactly()
     ensures avr { (line : List ℕ) → IsAvrLine line ↔ ((length line < 16384)
         × AllByRecursion (λ byte. byte ≢ 10) line × AllByRecursion (λ byte. byte ≢ 26) line
         × (sign_of_line (row_read Layout.Log line) ≡ Sign.Unclear)
-        × (sign_of_row (row_read csv_start line) ≡ Sign.Unclear) × (is_row_of 59 line ≡ false)
+        × (sign_of_row (row_read csv_start line) ≡ Sign.Unclear) × (is_row_behind 59 line ≡ false)
         × (has_frame (avr_found line) ≡ true)) }
     ensures prefix { IsAvrLine (codes "rx1: *02E197B00179C3;") }
     ensures carriage { IsAvrLine (13 ∷ codes "*8D40621D58C382D690C8AC2863A7;") }
@@ -215,13 +218,20 @@ pub fn formats_in_letters()
         ≡ Found.Damage ∷ avr_found (codes "*02E197B00179C3;") }
     ensures behind { any_found (codes "rx1: *02E197B00179C3;")
         ≡ Found.Damage ∷ Found.Damage ∷ avr_found (codes "*02E197B00179C3;") }
+    ensures cut { any_found (codes "02E197B00179C3;*02E197B00179C3;")
+        ≡ Found.Damage ∷ avr_found (codes "*02E197B00179C3;") }
     ensures by_itself { any_found (codes "02E197B00179C3") ≡ avr_found (codes "*02E197B00179C3;") }
-    ensures in_json { any_found (codes "{}*02E197B00179C3;" ++ 10 ∷ codes "7 *2040;")
-        ≡ Found.Damage ∷ avr_found (codes "*02E197B00179C3;") ++ Found.Damage ∷ bare_item 64 ∷ [] }
+    ensures in_json { any_found (codes "{}*02E197B00179C3;" ++ 10 ∷ codes "{}*02E197B00179C3;")
+        ≡ Found.Damage ∷ avr_found (codes "*02E197B00179C3;")
+        ++ Found.Damage ∷ avr_found (codes "*02E197B00179C3;") }
+    ensures cut_log { any_found (codes "x *02E197B00179C3;" ++ 10 ∷ codes "7 *2040;")
+        ≡ Found.Damage ∷ millis_item 7 64 ∷ [] }
+    ensures earlier { any_found (codes " *02E197B00179C3;" ++ 10 ∷ codes "x")
+        ≡ Found.Damage ∷ avr_found (codes "*02E197B00179C3;") ++ Found.Damage ∷ [] }
     ensures four { any_found (codes "x *2040;" ++ 10 ∷ codes "7 *2040;") ≡ Found.Damage ∷ millis_item 7 64 ∷ [] }
 {}
 
-/// Tables that are not read are told apart by their first row that has a frame or names columns.
+/// The first row with a frame, or with names of columns, shows what kind a table is that cannot be read.
 #[tactic(auto, unfolding(crate::specs::Finding::line_sign, crate::specs::Finding::start_sign))]
 pub fn tables_in_letters()
     ensures semicolons { any_found (codes "time;rawmsg") ≡ Found.Foreign Stranger.Semicolons ∷ [] }

@@ -1,6 +1,6 @@
 //! The signs by which a text shows its format.
 ghost use Rattle.std.specs.Prelude.{◌≡◌, ◌==◌, ◌++◌, ◌<◌, ◌≤◌, [], ◌∷◌, bytes_eq, length, option_to_list, take};
-ghost use Rattle.sq_feed.specs.Finding.{first_shown, has_frame, is_beast_start, is_known, is_packed, is_sbs};
+ghost use Rattle.sq_feed.specs.Finding.{first_shown, has_frame, is_bare_line, is_beast_start, is_framed_line, is_known, is_packed, is_sbs};
 ghost use Rattle.sq_feed.specs.Finding.{is_tar, is_utf16, line_sign, marked_sign, other_sign, sign_of_line, sign_of_row};
 ghost use Rattle.sq_feed.specs.Finding.{sign_of_word, start_sign, text_sign, told_sign};
 ghost use Rattle.sq_feed.specs.Kinds.{kind_of};
@@ -8,11 +8,11 @@ ghost use Rattle.sq_feed.specs.Avr.{avr_found};
 ghost use Rattle.sq_feed.specs.Rows.{csv_start, row_read, without_mark};
 ghost use Rattle.std.specs.Prelude.{if◌then◌else◌, get_or, ◌-◌};
 
-use crate::avr::{Avr, item_of_word, mark_of};
+use crate::avr::{Avr, frame_of_word, item_of_word, mark_of};
 use crate::machine::Format;
 use crate::message::{Found, Kind, Stranger, is_mode_s, kind_of};
-use crate::rows::{Columns, LONGEST, Layout, Row, row_read, without_mark};
-use crate::tables::{is_row_of, unread_table};
+use crate::rows::{Columns, LONGEST, Layout, Row, row_read, without_last, without_mark};
+use crate::tables::{holds_mode_s, is_row_behind, unread_table};
 
 /// What the first bytes of a source show.
 #[derive(Clone, Copy)]
@@ -44,15 +44,16 @@ pub(crate) fn first_shown(one: Sign, other: Sign) -> Sign
     }
 }
 
-// Returns the sign of the last byte of a line. `is_first` says whether the source begins with this line.
-pub(crate) fn last_byte_sign(line: &[u8], byte: u8, is_first: bool) -> Sign
+// Returns the sign of the last byte of a line. `is_framed` says whether an earlier line has a frame, and `is_first`
+// whether the source begins with this line.
+pub(crate) fn last_byte_sign(line: &[u8], byte: u8, is_framed: bool, is_first: bool) -> Sign
     requires { 0 < length line.now }
-    ensures { result ≡ (if byte == 10 then line_sign (take (length line.now - 1) line.now)
+    ensures { result ≡ (if byte == 10 then line_sign is_framed (take (length line.now - 1) line.now)
         else (if byte == 59 then marked_sign (take (length line.now - 1) line.now)
         else (if is_first then start_sign line.now else Sign.Unclear))) }
 {
     if byte == b'\n' {
-        line_sign(&line[..line.len() - 1])
+        line_sign(is_framed, &line[..line.len() - 1])
     } else if byte == b';' {
         marked_sign(&line[..line.len() - 1])
     } else if is_first {
@@ -62,16 +63,16 @@ pub(crate) fn last_byte_sign(line: &[u8], byte: u8, is_first: bool) -> Sign
     }
 }
 
-// Returns the sign of a whole line, without its line feed.
+// Returns the sign of a whole line, without its line feed. `is_framed` says whether an earlier line has a frame.
 #[tactic(auto, unfolding(crate::specs::Finding::line_sign))]
-pub(crate) fn line_sign(line: &[u8]) -> Sign
-    ensures { result ≡ line_sign line.now }
+pub(crate) fn line_sign(is_framed: bool, line: &[u8]) -> Sign
+    ensures { result ≡ line_sign is_framed line.now }
 {
     first_shown(
         log_sign(line),
         first_shown(
             table_sign(line),
-            first_shown(text_sign(line), other_sign(without_mark(line))),
+            first_shown(text_sign(is_framed, line), other_sign(without_mark(line))),
         ),
     )
 }
@@ -105,11 +106,25 @@ fn table_sign(line: &[u8]) -> Sign
     }
 }
 
-// Returns the sign of a line that is read as AVR text.
-fn text_sign(line: &[u8]) -> Sign
-    ensures { result ≡ text_sign line.now }
+// Returns whether a line has a frame, if it is read as AVR text.
+pub(crate) fn is_framed_line(line: &[u8]) -> bool
+    ensures { result ≡ is_framed_line line.now }
 {
-    if !is_row_of(b';', line) && has_frame(line) {
+    !is_row_behind(b';', line) && has_frame(line)
+}
+
+// Returns whether a line is a frame, without a mark or a time.
+fn is_bare_line(line: &[u8]) -> bool
+    ensures { result ≡ is_bare_line line.now }
+{
+    holds_mode_s(frame_of_word(without_last(b'\r', without_mark(line))))
+}
+
+// Returns the sign of a line that is read as AVR text.
+fn text_sign(is_framed: bool, line: &[u8]) -> Sign
+    ensures { result ≡ text_sign is_framed line.now }
+{
+    if is_framed_line(line) && (is_framed || is_bare_line(line)) {
         Sign::Shows(Format::Avr)
     } else {
         Sign::Unclear

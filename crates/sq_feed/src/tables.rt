@@ -1,8 +1,8 @@
 //! Tables that are not read, and why.
 ghost use Rattle.std.specs.Prelude.{◌≡◌, []};
 ghost use Rattle.sq_feed.specs.Avr.{frame_of_word};
-ghost use Rattle.sq_feed.specs.Tables.{frame_cell_from, has_column, has_third_frame, holds_mode_s, is_frame_cell, is_row_of};
-ghost use Rattle.sq_feed.specs.Tables.{lacks_rawmsg, lacks_time, unread_row, unread_table};
+ghost use Rattle.sq_feed.specs.Tables.{frame_cell_from, has_column, has_third_frame, holds_mode_s, is_frame_cell};
+ghost use Rattle.sq_feed.specs.Tables.{is_row_behind, is_row_of, lacks_rawmsg, lacks_time, unread_row, unread_table};
 
 use crate::avr::frame_of_word;
 use crate::cells::{cell_of, column_of, content_of, is_named, position_of};
@@ -45,10 +45,18 @@ fn unread_row(row: &[u8]) -> Option<Stranger>
 }
 
 // Returns whether a row has this byte between its columns, and frames in one of them.
-pub(crate) fn is_row_of(separator: u8, row: &[u8]) -> bool
+fn is_row_of(separator: u8, row: &[u8]) -> bool
     ensures { result ≡ is_row_of separator row.now }
 {
     position_of(separator, row) < row.len() && has_frame_cell(separator, row)
+}
+
+// Returns whether a row has this byte between its columns, and frames behind the first one.
+pub(crate) fn is_row_behind(separator: u8, row: &[u8]) -> bool
+    ensures { result ≡ is_row_behind separator row.now }
+{
+    let at = position_of(separator, row);
+    at < row.len() && has_frame_cell(separator, &row[at + 1..])
 }
 
 // Returns whether a row with this byte between its cells has a cell with a frame.
@@ -74,7 +82,8 @@ fn is_frame_cell(cell: &[u8]) -> bool
     is_named(RAWMSG, cell) || holds_mode_s(frame_of_word(content_of(cell)))
 }
 
-fn holds_mode_s(frame: Option<RawFrame>) -> bool
+// Returns whether there is a frame of Mode S.
+pub(crate) fn holds_mode_s(frame: Option<RawFrame>) -> bool
     ensures { result ≡ holds_mode_s frame }
 {
     match frame {

@@ -162,7 +162,7 @@ impl Times {
         self.is_live && self.latest <= moment && moment.abs_diff(due) <= self.leap
     }
 
-    /// Returns the timestamp (ms) at which times start again that went back.
+    /// Returns the timestamp (ms) at which times go on after a step back.
     pub(crate) fn anew(&self, arrival: u64) -> u64
         ensures { result ≡ anew_of self.now arrival }
     {
@@ -173,7 +173,7 @@ impl Times {
         }
     }
 
-    // Returns the timestamp (ms) at which a clock goes on that has started again.
+    // Returns the timestamp (ms) at which a clock goes on after it has started again.
     fn resumed(&self, arrival: u64) -> u64
         ensures { result ≡ resumed self.now arrival }
     {
