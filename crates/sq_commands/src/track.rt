@@ -80,31 +80,15 @@ impl<F: AnswerFormat, A: Allocator> Telling for Hearing<'_, F, A> {
     }
 }
 
-/// The job of `track` for answers as values.
-pub type ValueHearing<'a, A> = Hearing<'a, Numbered, A>;
-
-/// Returns the job of `track` by a tracker.
-pub fn hear_values<A: Allocator>(tracker: &mut Tracker<A>) -> ValueHearing<'_, A>
+/// Returns the job of `track` by a tracker. The format is a type, so that each format has a loop of its own, with the step
+/// inlined.
+pub fn hear_as<'a, F: AnswerFormat, A: Allocator>(
+    tracker: &'a mut Tracker<A>,
+    format: &'a F,
+) -> Hearing<'a, F, A>
     ensures { result.tracker ≡ tracker.entry }
 {
-    Hearing {
-        tracker,
-        format: &Numbered,
-    }
-}
-
-/// The job of `track` for answers as texts: the same as [`ValueHearing`], compiled once more, so that each of two loops
-/// has the step inlined.
-pub type TextHearing<'a, A> = Hearing<'a, CsvRows, A>;
-
-/// Returns the job of `track` by a tracker, for texts.
-pub fn hear_texts<A: Allocator>(hearer: &mut Tracker<A>) -> TextHearing<'_, A>
-    ensures { result.tracker ≡ hearer.entry }
-{
-    Hearing {
-        tracker: hearer,
-        format: &CsvRows,
-    }
+    Hearing { tracker, format }
 }
 
 // Has the tracker hear a squitter.

@@ -15,7 +15,7 @@ use Rattle.sq_log.specs.Logs.{HasHeard}
 use Rattle.sq_log.specs.Runs.{told_text}
 use Rattle.squitter_c.specs.declared.faults.Fault.{Fault}
 use Rattle.sq_track.specs.Held.{Held}
-use Rattle.squitter_c.specs.declared.log_take.End.TheVariants as ends
+use Rattle.squitter_c.specs.declared.log_loop.End.TheVariants as ends
 use Rattle.squitter_c.specs.LogCalls.{AsAnswers, AsTexts, GoesOn, GoesToTheEnd, HasGone, Written, log_in}
 use Rattle.squitter_c.specs.LogLaws.{AllAnswered, AllAnsweredAtEnd, AllTold, AllToldAtEnd}
 

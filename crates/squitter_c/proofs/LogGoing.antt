@@ -3,9 +3,9 @@ use Rattle.std.proofs.Common.{◌≡◌, ◌≢◌, ◌≤◌, ◌<◌, ◌+◌,
 use Rattle.sq_log.specs.declared.log.Log.{Log}
 use Rattle.sq_log.specs.declared.log.Step.TheVariants as steps
 use Rattle.sq_commands.specs.declared.track.Hearing.{Hearing}
-use Rattle.squitter_c.specs.declared.log_take.Done.{Done}
-use Rattle.squitter_c.specs.declared.log_take.End.{End}
-use Rattle.squitter_c.specs.declared.log_take.End.TheVariants as ends
+use Rattle.squitter_c.specs.declared.log_loop.Done.{Done}
+use Rattle.squitter_c.specs.declared.log_loop.End.{End}
+use Rattle.squitter_c.specs.declared.log_loop.End.TheVariants as ends
 use Rattle.squitter_c.specs.LogCalls.{GoesOn, GoesToTheEnd, HasGoneOn, IsWrittenTo, Written, held_by}
 use Rattle.squitter_c.proofs.LogSteps.{HasEnded, Stepped, goes_further, goes_no_further, goes_on_nothing}
 use Rattle.squitter_c.proofs.LogSteps.{goes_to_the_end, on_fed, on_memory, on_passed, rest_further, stays, stops_before}

@@ -22,8 +22,8 @@ use Rattle.sq_commands.specs.Track.{hearing_manner}
 use Rattle.sq_commands.specs.Tracking.{track_manner}
 use Rattle.sq_commands.specs.TrueAnswers.{true_answers}
 use Rattle.squitter_c.specs.declared.log_answer.PlainAnswer.{PlainAnswer}
-use Rattle.squitter_c.specs.declared.log_take.End.{End}
-use Rattle.squitter_c.specs.declared.log_take.End.TheVariants as ends
+use Rattle.squitter_c.specs.declared.log_loop.End.{End}
+use Rattle.squitter_c.specs.declared.log_loop.End.TheVariants as ends
 use Rattle.squitter_c.specs.LogAnswers.{IsPlainAnswer}
 use Rattle.squitter_c.specs.LogCalls.{GoesOn, GoesToTheEnd, HasGone, IsEndOf, Written, held_by}
 

@@ -15,7 +15,7 @@ use Rattle.squitter_c.specs.declared.faults.Reason.TheVariants as reasons
 use Rattle.squitter_c.specs.Faults.{fault_of, none}
 use Rattle.squitter_c.specs.Seal.{KeptFeed}
 use Rattle.squitter_c.specs.declared.feed_new.PlainCounts.{PlainCounts}
-use Rattle.squitter_c.specs.declared.log_take.Done.{Done}
+use Rattle.squitter_c.specs.declared.log_loop.Done.{Done}
 
 -- 0 for Beast, 1 for AVR, 2 for CSV, 3 for a log
 abbrev pub feed_format_number : Format → ℕ

@@ -5,7 +5,7 @@ use Rattle.sq_feed.specs.declared.message.Timed.{Timed}
 use Rattle.squitter_c.specs.declared.faults.Fault.{Fault}
 use Rattle.squitter_c.specs.Faults.{none}
 use Rattle.squitter_c.specs.Seal.{KeptFeed}
-use Rattle.squitter_c.specs.declared.log_take.Done.{Done}
+use Rattle.squitter_c.specs.declared.log_loop.Done.{Done}
 use Rattle.squitter_c.specs.FeedCalls.{IsFeedTaken, IsFeedTextTaken, squitters_of}
 
 -- If both arrays have room for one more, they hold the squitters of the whole piece.

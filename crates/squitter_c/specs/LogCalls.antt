@@ -22,9 +22,9 @@ use Rattle.squitter_c.specs.Faults.{fault_of, none}
 use Rattle.squitter_c.specs.Seal.{Kept}
 use Rattle.squitter_c.specs.declared.log_answer.PlainAnswer.{PlainAnswer}
 use Rattle.squitter_c.specs.declared.log_new.PlainTally.{PlainTally}
-use Rattle.squitter_c.specs.declared.log_take.Done.{Done}
-use Rattle.squitter_c.specs.declared.log_take.End.{End}
-use Rattle.squitter_c.specs.declared.log_take.End.TheVariants as ends
+use Rattle.squitter_c.specs.declared.log_loop.Done.{Done}
+use Rattle.squitter_c.specs.declared.log_loop.End.{End}
+use Rattle.squitter_c.specs.declared.log_loop.End.TheVariants as ends
 use Rattle.squitter_c.specs.LogAnswers.{IsPlainAnswer}
 
 -- a machine over a borrowed tracker, as one over the tracker itself
@@ -89,11 +89,11 @@ GoesToTheEnd As end old new before after =
     → (all : List ℕ) × (closed all ≡ closed given) × (end ≡ ends.Fed → all ≡ closed given)
     × HasGone As start end new all lines answers told after
 
--- what the counts say about how a call ended
-abbrev pub IsEndTold : End → Done → (given room : ℕ) → Type 0
-IsEndTold ends.Fed done given room = done.taken ≡ given
-IsEndTold ends.Full done given room = done.written ≡ room
-IsEndTold ends.NoMemory done given room = ⊤
+-- what the counts say about how a call ended, where a result needs so much room
+abbrev pub IsEndTold : (needed : ℕ) → End → Done → (given room : ℕ) → Type 0
+IsEndTold needed ends.Fed done given room = done.taken ≡ given
+IsEndTold needed ends.Full done given room = room < done.written + needed
+IsEndTold needed ends.NoMemory done given room = ⊤
 
 -- the fault of an end
 abbrev pub fault_of_end : End → Fault
@@ -123,17 +123,19 @@ pub record IsWrittenTo {X : Type 0} (was is : List X) (done : Done) (size : ℕ)
   pub rest : drop done.written is ≡ drop done.written was
 
 -- the log goes on with the bytes that were taken of the piece
-abbrev pub HasTaken : (old new : Kept) → (piece : List ℕ) → (was is : List PlainAnswer) → Done → Fault → Type 0
-HasTaken old new piece was is done fault = (end : End)
-    × GoesOn AsAnswers end (log_in old) (log_in new) (take done.taken piece) [] (take done.written is)
-    × IsWrittenTo was is done (length piece) × IsEndTold end done (length piece) (length is)
+abbrev pub HasTaken : {X : Type 0} → Written X → (needed : ℕ) → (old new : Kept) → (piece : List ℕ) → (was is : List X)
+    → Done → Fault → Type 0
+HasTaken As needed old new piece was is done fault = (end : End)
+    × GoesOn As end (log_in old) (log_in new) (take done.taken piece) [] (take done.written is)
+    × IsWrittenTo was is done (length piece) × IsEndTold needed end done (length piece) (length is)
     × (fault ≡ fault_of_end end)
 
 -- the log goes to its end
-abbrev pub HasFinished : (old new : Kept) → (was is : List PlainAnswer) → Done → Fault → Type 0
-HasFinished old new was is done fault = (end : End)
-    × GoesToTheEnd AsAnswers end (log_in old) (log_in new) [] (take done.written is)
-    × IsWrittenTo was is done 0 × IsEndTold end done 0 (length is) × (fault ≡ fault_of_end end)
+abbrev pub HasFinished : {X : Type 0} → Written X → (needed : ℕ) → (old new : Kept) → (was is : List X) → Done → Fault
+    → Type 0
+HasFinished As needed old new was is done fault = (end : End)
+    × GoesToTheEnd As end (log_in old) (log_in new) [] (take done.written is)
+    × IsWrittenTo was is done 0 × IsEndTold needed end done 0 (length is) × (fault ≡ fault_of_end end)
 
 -- The effect of a call on a listener: the log went on; or the log or the piece is too long, and nothing changed.
 abbrev pub IsOfListener : {X : Type 0} → (old new : Kept) → (size : ℕ) → (was is : List X) → (before after : Done)
@@ -143,31 +145,36 @@ IsOfListener old new size was is before after fault Going =
     ⊎ (IsTooLong old.log size × (new ≡ old) × (is ≡ was) × (after ≡ before) × (fault ≡ fault_of reasons.LongLog))
 
 -- the effect of taking a piece on a listener
-abbrev pub IsTakenBy : (old new : Kept) → (piece : List ℕ) → (was is : List PlainAnswer) → (before after : Done)
-    → Fault → Type 0
-IsTakenBy old new piece was is before after fault =
-    IsOfListener old new (length piece) was is before after fault (HasTaken old new piece was is after fault)
+abbrev pub IsTakenBy : {X : Type 0} → Written X → (needed : ℕ) → (old new : Kept) → (piece : List ℕ) → (was is : List X)
+    → (before after : Done) → Fault → Type 0
+IsTakenBy As needed old new piece was is before after fault =
+    IsOfListener old new (length piece) was is before after fault
+    (HasTaken As needed old new piece was is after fault)
 
 -- the effect of finishing on a listener
-abbrev pub IsFinishedBy : (old new : Kept) → (was is : List PlainAnswer) → (before after : Done) → Fault → Type 0
-IsFinishedBy old new was is before after fault =
-    IsOfListener old new 0 was is before after fault (HasFinished old new was is after fault)
+abbrev pub IsFinishedBy : {X : Type 0} → Written X → (needed : ℕ) → (old new : Kept) → (was is : List X)
+    → (before after : Done) → Fault → Type 0
+IsFinishedBy As needed old new was is before after fault =
+    IsOfListener old new 0 was is before after fault (HasFinished As needed old new was is after fault)
 
--- the effect of taking a piece on a log, or the fault if there is no log
+-- the effect of a call on a log; or there is no log, nothing changes, and the fault says so
+abbrev pub IsOfLog : {X : Type 0} → (old new : Option Kept) → (was is : List X) → (before after : Done) → Fault
+    → (Kept → Kept → Type 0) → Type 0
+IsOfLog (Some k) new was is before after fault By = (next : Kept) × (new ≡ Some next) × By k next
+IsOfLog None new was is before after fault By =
+    (new ≡ None) × (is ≡ was) × (after ≡ before) × (fault ≡ fault_of reasons.NoTracker)
+
+-- the effect of taking a piece on a log, as structs
 abbrev pub IsLogTaken : (old new : Option Kept) → (piece : List ℕ) → (was is : List PlainAnswer)
     → (before after : Done) → Fault → Type 0
-IsLogTaken (Some k) new piece was is before after fault =
-    (next : Kept) × (new ≡ Some next) × IsTakenBy k next piece was is before after fault
-IsLogTaken None new piece was is before after fault =
-    (new ≡ None) × (is ≡ was) × (after ≡ before) × (fault ≡ fault_of reasons.NoTracker)
+IsLogTaken old new piece was is before after fault = IsOfLog old new was is before after fault
+    (λ k next. IsTakenBy AsAnswers 1 k next piece was is before after fault)
 
--- the effect of finishing on a log, or the fault if there is no log
+-- the effect of finishing on a log, as structs
 abbrev pub IsLogFinished : (old new : Option Kept) → (was is : List PlainAnswer) → (before after : Done) → Fault
     → Type 0
-IsLogFinished (Some k) new was is before after fault =
-    (next : Kept) × (new ≡ Some next) × IsFinishedBy k next was is before after fault
-IsLogFinished None new was is before after fault =
-    (new ≡ None) × (is ≡ was) × (after ≡ before) × (fault ≡ fault_of reasons.NoTracker)
+IsLogFinished old new was is before after fault = IsOfLog old new was is before after fault
+    (λ k next. IsFinishedBy AsAnswers 1 k next was is before after fault)
 
 -- the numbers of good and of refused lines, or the fault if there is no log
 abbrev pub IsTallied : Option Kept → (was is : PlainTally) → Fault → Type 0

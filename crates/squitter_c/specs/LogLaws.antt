@@ -15,7 +15,7 @@ use Rattle.squitter_c.specs.Faults.{none}
 use Rattle.squitter_c.specs.Seal.{Kept}
 use Rattle.sq_track.specs.Held.{Held}
 use Rattle.squitter_c.specs.declared.log_answer.PlainAnswer.{PlainAnswer}
-use Rattle.squitter_c.specs.declared.log_take.Done.{Done}
+use Rattle.squitter_c.specs.declared.log_loop.Done.{Done}
 use Rattle.squitter_c.specs.LogAnswers.{IsPlainAnswer}
 use Rattle.squitter_c.specs.LogCalls.{IsLogFinished, IsLogTaken, log_in}
 use Rattle.squitter_c.specs.LogTexts.{IsFormat, IsTextFinished, IsTextTaken}

@@ -4,7 +4,7 @@ use Rattle.sq_feed.specs.Orders.{HasFlushed, HasSorted, Sorting, is_due, nothing
 use Rattle.squitter_c.specs.declared.faults.Fault.{Fault}
 use Rattle.squitter_c.specs.declared.faults.Reason.TheVariants as reasons
 use Rattle.squitter_c.specs.Faults.{fault_of, none}
-use Rattle.squitter_c.specs.declared.log_take.Done.{Done}
+use Rattle.squitter_c.specs.declared.log_loop.Done.{Done}
 use Rattle.squitter_c.specs.FeedCalls.{IsFilled, squitters_of}
 
 -- an order that holds nothing, or the fault if the block is too small

@@ -3,7 +3,7 @@ use Rattle.std.specs.Prelude.{◌≡◌, ◌<◌, ℕ, List, [], Option, Some, l
 use Rattle.sq_feed.specs.Orders.{HasSorted, Sorting}
 use Rattle.squitter_c.specs.declared.faults.Fault.{Fault}
 use Rattle.squitter_c.specs.Faults.{none}
-use Rattle.squitter_c.specs.declared.log_take.Done.{Done}
+use Rattle.squitter_c.specs.declared.log_loop.Done.{Done}
 use Rattle.squitter_c.specs.FeedCalls.{squitters_of}
 use Rattle.squitter_c.specs.OrderCalls.{IsOrderFlushed, IsOrderTaken}
 

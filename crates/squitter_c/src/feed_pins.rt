@@ -11,7 +11,7 @@ ghost use Rattle.squitter_c.specs.declared.faults.Fault.{Fault};
 ghost use Rattle.squitter_c.specs.Faults.{none};
 ghost use Rattle.squitter_c.specs.Seal.{KeptFeed};
 ghost use Rattle.squitter_c.specs.declared.feed_new.PlainCounts.{PlainCounts};
-ghost use Rattle.squitter_c.specs.declared.log_take.Done.{Done};
+ghost use Rattle.squitter_c.specs.declared.log_loop.Done.{Done};
 ghost use Rattle.squitter_c.specs.FeedCalls.{AreCounts, HasEndedInFrames, HasEndedInText, squitters_of};
 ghost use Rattle.squitter_c.specs.FeedCalls.{IsFeedCounted, IsFeedFinished, IsFeedFormat};
 ghost use Rattle.squitter_c.specs.FeedCalls.{IsFeedLost, IsFeedMade, IsFeedTextFinished};

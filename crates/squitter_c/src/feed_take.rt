@@ -5,7 +5,7 @@ ghost use Rattle.squitter_c.specs.Slots.{held_feed};
 
 use crate::faults::{Fault, NONE, Reason};
 use crate::feed_slot::FeedSlot;
-use crate::log_take::Done;
+use crate::log_loop::Done;
 use sq_feed::{Feed, Timed};
 
 /// Gives a feed the next bytes of its source, received at `arrival` (ms). Stores the timestamps (ms) and the frames of

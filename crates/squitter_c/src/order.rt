@@ -5,7 +5,7 @@ ghost use Rattle.squitter_c.specs.OrderCalls.{IsOrderGrown, IsOrderMade, IsOrder
 ghost use Rattle.squitter_c.specs.Slots.{held_order};
 
 use crate::faults::{Fault, NONE, Reason};
-use crate::log_take::Done;
+use crate::log_loop::Done;
 use crate::order_slot::{OrderSlot, bytes_for, moved_to, order_in};
 use sq_feed::{Order, Timed};
 use sq_lent::{Lent, Room};

@@ -5,7 +5,7 @@ ghost use Rattle.sq_feed.specs.Orders.{Sorting, nothing_sorted};
 ghost use Rattle.squitter_c.specs.declared.faults.Fault.{Fault};
 ghost use Rattle.squitter_c.specs.Faults.{fault_of, none};
 ghost use Rattle.squitter_c.specs.declared.faults.Reason.TheVariants as reasons;
-ghost use Rattle.squitter_c.specs.declared.log_take.Done.{Done};
+ghost use Rattle.squitter_c.specs.declared.log_loop.Done.{Done};
 ghost use Rattle.squitter_c.specs.OrderCalls.{HasGivenHeld, HasTakenInOrder, IsOrderCounted, IsOrderFlushed};
 ghost use Rattle.squitter_c.specs.OrderCalls.{IsOrderGrown, IsOrderMade, held_count, late_count};
 ghost use Rattle.squitter_c.specs.OrderCalls.{IsOrderTaken};

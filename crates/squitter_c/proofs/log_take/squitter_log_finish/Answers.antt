@@ -1,5 +1,5 @@
 use Rattle.std.proofs.Common.{◌∙◌, ap, option_map, rules, subst, sym}
-use Rattle.squitter_c.specs.LogCalls.{IsFinishedBy, IsLogFinished}
+use Rattle.squitter_c.specs.LogCalls.{AsAnswers, IsFinishedBy, IsLogFinished}
 use Rattle.squitter_c.specs.Seal.{listener_of}
 use Rattle.squitter_c.proofs.log_take.squitter_log_finish.Goals as goal
 
@@ -11,6 +11,6 @@ returns-in-Some c =
     (sym (ap (option_map (λ b. b.value)) c.in-Some.is) ∙ c.take.ensures.taken) (
       told.new.listener,
       search rules,
-      subst (λ old. IsFinishedBy old told.new.listener c.args.out.now told.new.out c.args.done.now told.new.done
+      subst (λ old. IsFinishedBy AsAnswers 1 old told.new.listener c.args.out.now told.new.out c.args.done.now told.new.done
           told.result) c.deref_mut.ensures.value told.ensures,
     )

@@ -5,7 +5,7 @@ use Rattle.squitter_c.proofs.log_text.squitter_log_finish_text.Goals as goal
 
 pub returns-in-Some : goal.returns-in-Some
 returns-in-Some c =
-    let told = c.finish_by-fault in
+    let told = c.finish_text_by-fault in
     subst (λ held. IsTextFinished c.args.format held (listener_of c.put.new.self.seal.held) c.args.out.now told.new.out
     c.args.done.now told.new.done told.result)
     (sym (ap (option_map (λ b. b.value)) c.in-Some.is) ∙ c.take.ensures.taken) (

@@ -2,19 +2,18 @@ use Rattle.std.proofs.Common.{[], ap, rules, subst₂, sym, take}
 use Rattle.sq_log.specs.declared.log.Log.{Log}
 use Rattle.sq_log.specs.States.{with_job}
 use Rattle.sq_track.specs.Held.{Held}
-use Rattle.sq_commands.specs.Heard.{heard_telling}
-use Rattle.squitter_c.specs.LogCalls.{AsTexts, GoesOn, held_by}
-use Rattle.squitter_c.proofs.log_text.take_with.Goals as goal
+use Rattle.squitter_c.specs.LogCalls.{GoesOn, held_by}
+use Rattle.squitter_c.proofs.log_loop.take_with.Goals as goal
 
 pub returns-clause-gone : goal.returns-clause-gone
 returns-clause-gone g c =
+    let As = g.F.Form.As c.args.form.now in
     let told = c.write_some-told in
     let end = told.result.1 in
     let bytes = take told.result.0.taken c.args.piece.now in
     let written = take told.result.0.written told.new.out in
-    let gone = subst₂ (λ (old new : Log Held). GoesOn (AsTexts (heard_telling c.args.format)) end old new bytes []
-    written)
+    let gone = subst₂ (λ (old new : Log Held). GoesOn As end old new bytes [] written)
     (ap held_by c.resume-log.ensures.log) (sym (ap held_by c.state.ensures)) told.ensures.goes_on.gone in
-    subst₂ (λ (first last : Held). GoesOn (AsTexts (heard_telling c.args.format)) end (with_job first c.args.state.now)
-    (with_job last c.state.result) bytes [] written) (ap (λ tracker. tracker.now) c.hear_texts.ensures) (search rules)
+    subst₂ (λ (first last : Held). GoesOn As end (with_job first c.args.state.now)
+    (with_job last c.state.result) bytes [] written) (ap (λ tracker. tracker.now) c.hear_as.ensures) (search rules)
     gone

@@ -1,6 +1,6 @@
 use Rattle.std.proofs.Common.{rules}
 use Rattle.std.proofs.lemmas.Slice.{overwrites}
-use Rattle.squitter_c.proofs.log_text.put_at.Goals as goal
+use Rattle.squitter_c.proofs.forms.put_at.Goals as goal
 
 pub returns-clause-rest : goal.returns-clause-rest
 returns-clause-rest c = search (rules, overwrites)
