@@ -74,8 +74,7 @@ class Tries:
         for name in ("squitter-feed", "squitter-geojson"):
             os.symlink(f"{TOP}/feeds/{name}", f"{self.stands}/{name}")
         self.pandas = python_with("numpy", "pandas")
-        flagged = ["node", "--experimental-wasm-memory64", "-e", "0"]
-        self.has_node = bool(shutil.which("node")) and subprocess.run(flagged, capture_output=True).returncode == 0
+        self.has_node = bool(shutil.which("node"))
         python = {"python3": f'exec {self.pandas} "$@"\n'} if self.pandas else {}
         for name, text in {**RECEIVERS, **python}.items():
             with open(f"{self.stands}/{name}", "w") as file:

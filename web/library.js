@@ -329,6 +329,7 @@ function frameBytes(source) {
   if (source instanceof ArrayBuffer) return new Uint8Array(source.slice(0));
   return new Uint8Array(source.buffer, source.byteOffset, FRAME_BYTES).slice();
 }
+const MOST_PAGES = 65536;
 class Memory {
   constructor(exports, angle) {
     Object.assign(this, { exports, angle });
@@ -342,12 +343,9 @@ class Memory {
     this.all = new Uint8Array(exports.memory.buffer);
   }
   grow(pages) {
-    try {
-      this.exports.memory.grow(BigInt(pages));
-    } catch (error) {
-      if (!(error instanceof TypeError)) throw error;
-      this.exports.memory.grow(pages);
-    }
+    const { memory } = this.exports, most = MOST_PAGES - memory.buffer.byteLength / PAGE_BYTES;
+    if (pages > most) throw new RangeError(`the library's memory ends at 4 GiB, and cannot grow by ${pages} pages`);
+    memory.grow(pages);
   }
   reach(at, count) {
     const lack = at + count - this.exports.memory.buffer.byteLength;
@@ -1117,16 +1115,6 @@ class Squitter {
     return `${number >> 16}.${(number >> 8) & 255}.${number & 255}`;
   }
 }
-async function instantiated(given) {
-  try {
-    return await WebAssembly.instantiate(given, {});
-  } catch (error) {
-    if (!(error instanceof WebAssembly.CompileError) || !error.message.includes("invalid memory limits")) throw error;
-    const remedy = "start Node 20 as: node --experimental-wasm-memory64";
-    const advice = `squitter.wasm needs WebAssembly with 64-bit memory; ${remedy} (${error.message})`;
-    throw new WebAssembly.CompileError(advice, { cause: error });
-  }
-}
 async function load(source) {
   let given = await source;
   const isModule = given instanceof ArrayBuffer || ArrayBuffer.isView(given) || given instanceof WebAssembly.Module;
@@ -1135,7 +1123,7 @@ async function load(source) {
     given = await given.arrayBuffer();
   }
   if (ArrayBuffer.isView(given)) given = new Uint8Array(given.buffer, given.byteOffset, given.byteLength);
-  const made = await instantiated(given);
+  const made = await WebAssembly.instantiate(given, {});
   return new Squitter(made instanceof WebAssembly.Instance ? made : made.instance);
 }
 return {

@@ -127,8 +127,8 @@ function startTabs() {
 
 /** Hides the panels, and says why. */
 function refuseBrowser(error) {
-  byId("notice").textContent = "This browser has no WebAssembly with 64-bit memory, which the library needs. " +
-    `Newer versions of Chromium and Firefox have it. (${error.message})`;
+  byId("notice").textContent = "This browser has no WebAssembly with SIMD, which the library needs. " +
+    `Chrome, Firefox and Safari have had it since 2023. (${error.message})`;
   byId("notice").hidden = false;
   document.querySelector("main").hidden = true;
   byId("tabs").hidden = true;

@@ -396,8 +396,7 @@ export declare class Order {
 }
 
 /** Loads the library from dist/squitter.wasm: its bytes, the Response of fetch, a compiled module, or a promise of one
- * of these. Rejects with a WebAssembly.CompileError if the engine has no 64-bit memory; Node 20 has it if it is started
- * as `node --experimental-wasm-memory64`. */
+ * of these. Rejects with a WebAssembly.CompileError if the engine has no SIMD, or the bytes are no module. */
 export declare function load(
   source: BufferSource | Response | WebAssembly.Module | PromiseLike<BufferSource | Response | WebAssembly.Module>
 ): Promise<Squitter>;

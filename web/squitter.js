@@ -2,13 +2,13 @@
  *
  *     import { load } from "./squitter.js";
  *     const squitter = await load(fetch("squitter.wasm"));           // in a browser; in Node:
- *     const squitter = await load(readFileSync("squitter.wasm"));    // Node 20: node --experimental-wasm-memory64
+ *     const squitter = await load(readFileSync("squitter.wasm"));
  *     const place = squitter.pair("8D40621D58C382D690C8AC2863A7", "8D40621D58C386435CC412692AD6");
  *     console.log(`${place.lat} ${place.lon}`);                      // 52.2657802 3.9389125
  *     console.log(place.lat.num, place.lat.den);                     // 25261515n 483328n
  *
- * The module is dist/squitter.wasm, the proved library with 64-bit memory. This file only lays out arguments and
- * results in memory, as squitter.h does; the library computes them. Names are those of the Python module.
+ * The module is dist/squitter.wasm, the proved library. This file only lays out arguments and results in memory, as
+ * squitter.h does; the library computes them. Names are those of the Python module.
  *
  * DEGREES go in as a fraction {num, den} of two BigInts, a BigInt, a number or a text such as "52.25". A number counts
  * as its shortest text: 52.31 is 5231/100. At most 12 decimals are valid, and computed numbers often have more: pass
@@ -263,22 +263,8 @@ export class Squitter {
   }
 }
 
-/** Makes an instance of the module. Engines without 64-bit memory only say 'invalid memory limits flags'; the error
- * thrown here also names the cause and the remedy. */
-async function instantiated(given) {
-  try {
-    return await WebAssembly.instantiate(given, {});
-  } catch (error) {
-    if (!(error instanceof WebAssembly.CompileError) || !error.message.includes("invalid memory limits")) throw error;
-    const remedy = "start Node 20 as: node --experimental-wasm-memory64";
-    const advice = `squitter.wasm needs WebAssembly with 64-bit memory; ${remedy} (${error.message})`;
-    throw new WebAssembly.CompileError(advice, { cause: error });
-  }
-}
-
 /** Loads the library from dist/squitter.wasm: its bytes, the Response of fetch, a compiled module, or a promise of one
- * of these. Rejects with a WebAssembly.CompileError if the engine has no 64-bit memory; Node 20 has it if it is started
- * as `node --experimental-wasm-memory64`. */
+ * of these. Rejects with a WebAssembly.CompileError if the engine has no SIMD, or the bytes are no module. */
 export async function load(source) {
   let given = await source;
   // Response is tested last: Node loads its fetch, some 60 ms, once Response is named.
@@ -289,6 +275,6 @@ export async function load(source) {
   }
   // Node 20 refuses a DataView.
   if (ArrayBuffer.isView(given)) given = new Uint8Array(given.buffer, given.byteOffset, given.byteLength);
-  const made = await instantiated(given);
+  const made = await WebAssembly.instantiate(given, {});
   return new Squitter(made instanceof WebAssembly.Instance ? made : made.instance);
 }

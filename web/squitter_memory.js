@@ -5,6 +5,9 @@ import {
 } from "./squitter_layout.js";
 import { Angle, Fault, PAGE_BYTES, fitted, fraction } from "./squitter_values.js";
 
+/** Pages that 32-bit addresses reach: 4 GiB. */
+const MOST_PAGES = 65536;
+
 /** The memory of the module, and the addresses of arguments and results, above the memory that the module uses. */
 export class Memory {
   /** `angle` parses the text of an angle. */
@@ -21,14 +24,12 @@ export class Memory {
     this.all = new Uint8Array(exports.memory.buffer);
   }
 
-  /** Grows by this many pages. Engines take a BigInt; those from before the final standard take a number. */
+  /** Grows by this many pages. Throws a RangeError beyond 4 GiB: the module takes the low 32 bits of an address, so one
+   * beyond them would be another. The engine throws one too, if it has less memory. */
   grow(pages) {
-    try {
-      this.exports.memory.grow(BigInt(pages));
-    } catch (error) {
-      if (!(error instanceof TypeError)) throw error;
-      this.exports.memory.grow(pages);
-    }
+    const { memory } = this.exports, most = MOST_PAGES - memory.buffer.byteLength / PAGE_BYTES;
+    if (pages > most) throw new RangeError(`the library's memory ends at 4 GiB, and cannot grow by ${pages} pages`);
+    memory.grow(pages);
   }
 
   /** Grows until there are `count` bytes from address `at` on. */

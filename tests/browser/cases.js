@@ -1,5 +1,5 @@
 /* cases.js: a case of vectors/, asked of web/squitter.js. In the browser tests/page calls squitterCase; by
- * node this is an adapter: vectors/run 'node --experimental-wasm-memory64 tests/browser/cases.js' */
+ * node this is an adapter: vectors/run 'node tests/browser/cases.js'. A word names another module of dist/. */
 "use strict";
 
 /** The answer to a case, in the words of vectors/README.md. */
@@ -73,10 +73,8 @@ function squitterCase({ AirHead, GroundHead }, library, { op, input }) {
 }
 
 /** Answers each line of the input. */
-async function main() {
-  const { readFileSync } = require("node:fs");
-  const squitter = await import("../../web/squitter.js");
-  const library = await squitter.load(readFileSync(`${__dirname}/../../dist/squitter.wasm`));
+async function main([name]) {
+  const { squitter, library } = await require("./modules.js").loaded(name);
   const adapter = "libsquitter as a WebAssembly module";
   console.log(JSON.stringify({ adapter, version: library.version(), exact: true }));
   for await (const line of require("node:readline").createInterface({ input: process.stdin })) {
@@ -85,4 +83,4 @@ async function main() {
   }
 }
 
-if (typeof module !== "undefined") main();
+if (typeof module !== "undefined") main(process.argv.slice(2));

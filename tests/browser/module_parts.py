@@ -3,9 +3,10 @@ answers, by node and on the page."""
 import json
 import re
 import subprocess
+from typing import List
 
 from logs import logs, tracked
-from trying import HERE, SITE, TOP, Tries, bytes_of, cases, expect, first_difference, read_text
+from trying import HERE, NARROW, SITE, TOP, WIDE, Tries, bytes_of, cases, expect, first_difference, read_text
 from using import silent
 
 
@@ -53,41 +54,29 @@ def in_workers(tries: Tries) -> str:
     return done.stdout.strip()
 
 
-WITHOUT_FLAG = """
+REFUSED = """
 import { load } from "TOP/web/squitter.js";
 import { readFileSync } from "node:fs";
-const whole = readFileSync("TOP/dist/squitter.wasm");
-const { CompileError } = WebAssembly, real = WebAssembly.instantiate, told = [];
+const whole = readFileSync("TOP/dist/squitter.wasm"), told = [];
 const tried = (given) => load(given).then(() => told.push("loaded"), ({ name, message }) => told.push([name, message]));
 await tried(whole);
-WebAssembly.instantiate = () => Promise.reject(new CompileError("invalid memory limits flags 0x4 (enable via --x)"));
-await tried(whole);
-WebAssembly.instantiate = () => Promise.reject(new RangeError("invalid memory limits"));
-await tried(whole);
-WebAssembly.instantiate = real;
+await tried(whole.subarray(0, -1));
 await tried(new Uint8Array(3));
 await tried(Promise.resolve(new Response("", { status: 404 })));
 console.log(JSON.stringify(told));
 """
 
 
-def without_flag(tries: Tries) -> str:
-    """An engine without 64-bit memory, as Node 20 is without its flag, gets the flag to type. No other error does."""
-    script = WITHOUT_FLAG.replace("TOP", TOP)
-    count = 0
-    for words in (["node"], tries.node):
-        done = subprocess.run([*words, "--input-type=module", "-e", script], capture_output=True, text=True)
-        expect(done.returncode == 0, words, done.stderr)
-        first, stubbed, *others = json.loads(done.stdout)
-        expect(first == "loaded" or words != tries.node, words, first)
-        for name, message in [stubbed] if first == "loaded" else [stubbed, first]:
-            expect(name == "CompileError" and "invalid memory limits flags 0x4" in message, words, name, message)
-            expect("64-bit memory" in message and "node --experimental-wasm-memory64" in message, words, message)
-        expect([name for name, _ in others] == ["RangeError", "CompileError", "Error"], words, others)
-        expect(not any("experimental" in message for _, message in others), words, others)
-        expect("404" in others[-1][1], words, others)
-        count += 5
-    return f"{count} modules"
+def refused(tries: Tries) -> str:
+    """Node loads the module without a flag. What is no module is refused, and so is an answer that is not good."""
+    script = REFUSED.replace("TOP", TOP)
+    done = subprocess.run([*tries.node, "--input-type=module", "-e", script], capture_output=True, text=True)
+    expect(done.returncode == 0, done.stderr)
+    first, *others = json.loads(done.stdout)
+    expect(first == "loaded", first)
+    expect([name for name, _ in others] == ["CompileError", "CompileError", "Error"], others)
+    expect("404" in others[-1][1], others)
+    return f"{len(others)} sources"
 
 
 # Only Python has calls of arrays: there, a call costs more than the work it asks for.
@@ -145,30 +134,76 @@ def hints(tries: Tries) -> str:
     return f"{len(told)} faults"
 
 
-def vectors_by_node(tries: Tries) -> str:
-    """All vectors but the logs, exactly."""
-    adapter = " ".join([*tries.node, f"{HERE}/cases.js"])
+def answered_vectors(node: List[str], module: str) -> int:
+    """How many vectors a module answers by node: all but the logs, exactly."""
+    adapter = " ".join([*node, f"{HERE}/cases.js", module])
     done = subprocess.run([f"{TOP}/vectors/run", adapter], capture_output=True, text=True)
     expect(done.returncode == 0, done.stdout[-1500:], done.stderr)
     passed = re.search(r"^all +\d+ +(\d+)", done.stdout, re.M)
     wanted = len(cases()) - len(cases("log"))
     expect(passed and int(passed[1]) == wanted, "passed", passed and passed[1], "of", wanted)
-    return f"{wanted} cases"
+    return wanted
 
 
-def logs_by_node(tries: Tries) -> str:
-    """Logs beside the program, in pieces of several sizes."""
-    count = 0
+def heard_logs(tries: Tries, node: List[str], module: str) -> int:
+    """How many logs a module hears by node as the program does, in pieces of several sizes."""
+    jobs, wanted = [], []
     for number, (name, log, settings) in enumerate(logs()):
         window, limit, site = settings
         piece = (1 << 20, 1, 37, 64, 65, 1000)[number % 6 if len(log) < 200_000 else 0]
-        words = [str(window), str(limit), str(piece), *(site or ())]
-        done = subprocess.run([*tries.node, f"{HERE}/hear.js", *words], input=log, capture_output=True)
-        expect(done.returncode == 0, name, done.stderr.decode())
-        wanted = tracked(tries.program, log, settings)
-        expect(done.stdout == wanted, name, words, first_difference(done.stdout, wanted))
-        count += 1
-    return f"{count} logs"
+        path = f"{tries.work}/{number}.log"
+        with open(path, "wb") as file:
+            file.write(log)
+        job = {"log": path, "out": f"{path}.out", "window": str(window), "limit": limit, "piece": piece, "site": site}
+        jobs.append(job)
+        wanted.append((name, tracked(tries.program, log, settings)))
+    lines = "".join(f"{json.dumps(job)}\n" for job in jobs).encode()
+    done = subprocess.run([*node, f"{HERE}/hear.js", module], input=lines, capture_output=True)
+    expect(done.returncode == 0, module, done.stderr.decode())
+    for job, (name, text) in zip(jobs, wanted):
+        got = bytes_of(str(job["out"]))
+        expect(got == text, module, name, job, first_difference(got, text))
+    return len(jobs)
+
+
+def vectors_by_node(tries: Tries) -> str:
+    return f"{answered_vectors(tries.node, NARROW)} cases"
+
+
+def logs_by_node(tries: Tries) -> str:
+    return f"{heard_logs(tries, tries.node, NARROW)} logs"
+
+
+BEYOND = """
+require("HERE/modules.js").loaded("NAME").then(({ library: { memory } }) => {
+  const { exports, firstAt, outAt } = memory;
+  for (const [from, to] of [[firstAt, outAt], [2 ** 32 + firstAt, outAt], [firstAt, 2 ** 32 + outAt]]) {
+    memory.bytesAt(firstAt, 14).fill(0xA5);
+    memory.bytesAt(outAt, 28).fill(0);
+    try {
+      exports.squitter_text_of_frame(BigInt(from), BigInt(to));
+      console.log(memory.getText(outAt, 28));
+    } catch (error) {
+      console.log(error.name);
+    }
+  }
+});
+"""
+
+
+def beyond(node: List[str], module: str) -> List[str]:
+    """What a module does with an address of 4 GiB and more, to read from and to write to."""
+    script = BEYOND.replace("HERE", HERE).replace("NAME", module)
+    return subprocess.run([*node, "-e", script], capture_output=True, text=True).stdout.split()
+
+
+def wide_module(tries: Tries) -> str:
+    """The module with 64-bit memory answers all vectors and logs as the one that is made from it. Only an address of
+    4 GiB and more differs: it wraps, and is an error here."""
+    node = tries.wide_node
+    told = beyond(tries.node, NARROW), beyond(node, WIDE)
+    expect(told == (["A5" * 14] * 3, ["A5" * 14, "RuntimeError", "RuntimeError"]), told)
+    return f"{answered_vectors(node, WIDE)} cases, {heard_logs(tries, node, WIDE)} logs"
 
 
 def vectors_in_browser(tries: Tries) -> str:

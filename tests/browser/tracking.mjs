@@ -7,7 +7,7 @@ import {
 
 const MODULE = readFileSync(new URL("../../dist/squitter.wasm", import.meta.url));
 const VIEW = new DataView(MODULE.buffer, MODULE.byteOffset, MODULE.byteLength);
-const library = await load(MODULE), blank = await load(VIEW);
+const library = await load(MODULE), blank = await load(VIEW), full = await load(MODULE);
 const FLIGHTS = readFileSync(new URL("../../examples/flights.log", import.meta.url));
 const WORKED = readFileSync(new URL("../worked/track.txt", import.meta.url), "utf8");
 const FRAME = "8D40621D58C382D690C8AC2863A7", HERE = { lat: 52.31, lon: 4.76 };
@@ -259,6 +259,31 @@ function memoryExhausted() {
   memory.release(next);
 }
 
+/** The memory ends at 4 GiB. What lies just below works; a claim across the end is refused by name, and changes
+ * nothing. The system commits only the pages that are written. */
+function memoryEnd() {
+  const { memory } = full, end = 2 ** 32, first = memory.end, pages = memory.exports.memory.buffer.byteLength / 65_536;
+  const told = (count) => {
+    try {
+      return memory.claim(count).at;
+    } catch (error) {
+      return String(error);
+    }
+  };
+  const refused = (lack) => `RangeError: the library's memory ends at 4 GiB, and cannot grow by ${lack} pages`;
+  same(told(end - first + 1), refused(65_537 - pages), "a claim across the end");
+  same([memory.end, memory.exports.memory.buffer.byteLength], [first, 65_536 * pages], "and memory after it");
+  const before = new Log(full), taken = memory.end - first;
+  before.close();
+  const below = memory.claim(end - first - taken), log = new Log(full), answers = log.takeText(FLIGHTS);
+  same([memory.end, memory.exports.memory.buffer.byteLength], [end, end], "a log up to the end");
+  same(answers === new Log(library).takeText(FLIGHTS) && answers.length > 10_000, true, "its answers");
+  same(told(1), refused(1), "a claim at the end");
+  log.close();
+  memory.release(below);
+  same([memory.end, memory.free.length], [first, 0], "memory that is free again");
+}
+
 /** A log, a feed or an order that the memory has no room for is a RangeError, and all that it has claimed is free
  * again. */
 function roomsExhausted() {
@@ -346,7 +371,7 @@ function edges() {
 }
 
 const tests = [limits, largeNumbers, afterFinish, columnsBesideText, longAnswers, sitesOfTheirOwn, sitesOfTexts,
-  ownBytes, sharedMemory, usualLeap, firstMoment, memoryUsedAgain, memoryExhausted, roomsExhausted,
+  ownBytes, sharedMemory, usualLeap, firstMoment, memoryUsedAgain, memoryExhausted, memoryEnd, roomsExhausted,
   otherKinds, edges];
 for (const test of tests) test();
 console.log(`${tests.length} tests of trackers and logs`);

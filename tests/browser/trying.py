@@ -1,6 +1,5 @@
 """What the parts of tests/page share: how one fails or is skipped, the repository's files, the vectors, and the page in
 a browser."""
-import functools
 import glob
 import json
 import os
@@ -17,6 +16,7 @@ TOP = os.path.dirname(os.path.dirname(HERE))
 INDEX = f"file://{TOP}/web/index.html"
 SITE = ("52.31", "4.76")
 AIR_EVEN = "8D40621D58C382D690C8AC2863A7"
+NARROW, WIDE = "squitter.wasm", "squitter64.wasm"  # the module with 32-bit memory, and what it is made from
 AIR_ODD = "8D40621D58C386435CC412692AD6"
 
 
@@ -62,18 +62,22 @@ class Tries:
         self.work = work
         self.open: Optional[chromium.Chromium] = None
 
-    @functools.cached_property
+    @property
     def node(self) -> List[str]:
-        """node, with the flag that it may want for memory of 64 bits."""
         if shutil.which("node") is None:
             raise Missing("node")
+        return ["node"]
+
+    @property
+    def wide_node(self) -> List[str]:
+        """node, with the flag that it may want for the 64-bit memory of dist/squitter64.wasm."""
         module = (
-            f"WebAssembly.compile(require('fs').readFileSync('{TOP}/dist/squitter.wasm')).catch(() => process.exit(3))"
+            f"WebAssembly.compile(require('fs').readFileSync('{TOP}/dist/{WIDE}')).catch(() => process.exit(3))"
         )
-        for words in (["node"], ["node", "--experimental-wasm-memory64"]):
+        for words in (self.node, [*self.node, "--experimental-wasm-memory64"]):
             if subprocess.run([*words, "-e", module], capture_output=True).returncode == 0:
                 return words
-        raise Missing("a node with memory of 64 bits")
+        raise Missing("a node with 64-bit memory")
 
     @property
     def browser(self) -> chromium.Chromium:

@@ -319,16 +319,16 @@ def policy(tries: Tries) -> str:
     return f"{len(BLOCKED) + 1} things blocked"
 
 
-def without_memory(tries: Tries) -> str:
-    """A browser without memory of 64 bits gets a sentence, and no panels."""
+def without_simd(tries: Tries) -> str:
+    """A browser that cannot run the module gets a sentence, and no panels."""
     browser = tries.browser
-    script = "WebAssembly.instantiate = () => Promise.reject(new WebAssembly.CompileError('invalid memory limits'));"
+    script = "WebAssembly.instantiate = () => Promise.reject(new WebAssembly.CompileError('invalid value type'));"
     added = browser.call("Page.addScriptToEvaluateOnNewDocument", source=script)["identifier"]
     try:
         browser = tries.page()
         said = shown(browser, "#notice")
         hidden = browser.evaluate("document.querySelector('main').hidden && document.getElementById('tabs').hidden")
-        expect("64-bit memory" in said and hidden, said, hidden)
+        expect("SIMD" in said and "invalid value type" in said and hidden, said, hidden)
         silent(browser)
     finally:
         browser.call("Page.removeScriptToEvaluateOnNewDocument", identifier=added)
@@ -339,28 +339,24 @@ TEXT = "page.squitterLog.texts().then((texts) => texts.join(''))"
 
 
 def in_firefox(tries: Tries) -> str:
-    """Firefox hears the example as the program does; one without memory of 64 bits says so."""
+    """Firefox hears the example as the program does; one that cannot run the module says so."""
     if not firefox.installed():
         raise Missing("firefox-esr")
     browser = firefox.Firefox()
     try:
         browser.open(f"{INDEX}#log")
-        said = browser.evaluate("document.getElementById('notice').textContent")
-        if not said:
-            browser.evaluate("document.getElementById('log-example').click()")
-            browser.wait("document.getElementById('log-state').textContent.includes('decoded. ')")
-            got, wanted = browser.evaluate(TEXT).encode(), tracked(tries.program, flights(), (10_000, 1000, SITE))
-            expect(got == wanted, first_difference(got, wanted))
-            frame = browser.evaluate("document.getElementById('frame-answer').textContent")
-            expect("38000 feet" in frame and "40621D" in frame, frame)
-        else:
-            expect("64-bit memory" in said, said)
+        browser.evaluate("document.getElementById('log-example').click()")
+        browser.wait("document.getElementById('log-state').textContent.includes('decoded. ')")
+        got, wanted = browser.evaluate(TEXT).encode(), tracked(tries.program, flights(), (10_000, 1000, SITE))
+        expect(got == wanted, first_difference(got, wanted))
+        frame = browser.evaluate("document.getElementById('frame-answer').textContent")
+        expect("38000 feet" in frame and "40621D" in frame, frame)
         shutil.copytree(f"{TOP}/web", f"{tries.work}/web")
         with open(f"{tries.work}/web/module.js", "a", encoding="ascii") as file:
-            file.write("WebAssembly.instantiate = () => Promise.reject(new WebAssembly.CompileError('memory'));\n")
+            file.write("WebAssembly.instantiate = () => Promise.reject(new WebAssembly.CompileError('type'));\n")
         browser.open(f"file://{tries.work}/web/index.html")
         told = browser.evaluate("document.getElementById('notice').textContent")
-        expect("64-bit memory" in told and browser.evaluate("document.querySelector('main').hidden"), told)
+        expect("SIMD" in told and browser.evaluate("document.querySelector('main').hidden"), told)
     finally:
         browser.close()
-    return f"Firefox {browser.version}, {'a sentence' if said else 'the example'}, and a sentence without the memory"
+    return f"Firefox {browser.version}, the example, and a sentence without the module"
