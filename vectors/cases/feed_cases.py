@@ -9,6 +9,7 @@ from cases.feed_words import LOST, OPEN, RATE, Cases, E, L, M, O, S, V, X, clock
 
 SECOND = 1000 * RATE  # ticks
 BEAST = message(E, SECOND)
+BAR = b"*%s;\n" % E.encode()
 MARK = b"\xef\xbb\xbf"  # of the order of bytes, in UTF-8
 
 
@@ -65,6 +66,13 @@ def add_beast_damage(cases: Cases) -> None:
     cases.add("cut", flags, BEAST + b"xyz" * 9 + after, ["1000 E", "2000 O"], {"damaged": 1},
               note="bytes that are no message are one damage")
     cases.add("cut", flags, b"xyz" + BEAST + after, ["1000 E", "2000 O"], {"damaged": 1}, format="beast")
+    cases.add("cut", flags, [BEAST + b"\x1ax", b"\0" * 20_000, after], ["1000 E", "2000 O"], {"damaged": 1},
+              note="of any length")
+    cases.add("cut", flags, BEAST + b"\0 garbage \x1a\x1a\x1a9" + after, ["1000 E", "2000 O"], {"damaged": 2},
+              note="bytes, and a start of unknown type")
+    cut = message(E, SECOND) + message(O, 2 * SECOND)[1:] + message(O, 3 * SECOND)
+    cases.add("cut", flags, cut, ["1000 E", "3000 O"], {"damaged": 1}, note="a message without its escape")
+    cases.add("cut", flags, BEAST[:9] + BEAST + BEAST[:12] + after, ["1000 E", "2000 O"], {"damaged": 2})
     for size in (1, 2, 3, len(BEAST) - 1):
         cases.add("cut", flags, BEAST + BEAST[:size], ["1000 E"], {"damaged": int(size > 1)},
                   note="at the end; a lone escape there is no damage")
@@ -139,6 +147,8 @@ def add_avr_words(cases: Cases) -> None:
     for edge in (b"\xef", b"\xbb", b"\xbf", MARK, b"\n" + MARK):
         cases.add("word", "AvrText ByteOrderMark", edge + b"%s%s%s" % (e, edge, o), two, format="avr",
                   note="each byte of a byte order mark ends a line")
+    cases.add("word", "AvrText", [b"*", b"8" * 20_000, b"*%s;" % e], ["0 E"], {"damaged": 1}, format="avr")
+    cases.add("word", "AvrText", [b"*%s;" % e, b"8" * 20_000, b"\n*%s;" % o], two, {"damaged": 1}, format="avr")
     cases.add("word", "AvrText", [b" " * 9000, b"*%s;" % e], ["0 E"], {"damaged": 1}, format="avr",
               note="a line of AVR text may have any length")
 
@@ -257,6 +267,42 @@ def add_shown(cases: Cases) -> None:
         gives = [0, len(lines) if form in ("beast", "avr") else 0, len(lines) if form in ("log", "csv") else 0]
         cases.add("shown", flags, [data[:-1], data[-1:], end(0)], lines, counts, gives, [None, form, None])
         cases.add("shown", flags, [data[:-1], data[-1:]], lines, counts, None, [form] * 3, format=form)
+    add_shown_late(cases)
+
+
+def add_shown_late(cases: Cases) -> None:
+    """What only looks like a format, and what the end of a source shows."""
+    flags, garbage = "FormatShown", b"\0\xff\x1a9 garbage 12\n1234\n"
+    status, receiver = b"\x1a4" + bytes(range(1, 22)), b"\x1a\xe3" + bytes(range(8))
+    for data in (b"x" + BEAST, b"x" + (BEAST + b"\0") * 3, b"x" + BEAST + BEAST[:-1],
+                 b"x" + BEAST + b"\x1a5" + BEAST[2:],
+                 b"x" + BEAST + b"\x1a\x1a" + BEAST, b"x" + BEAST + status, b"x" + BEAST + receiver,
+                 *(b"\x1a" + bytes([kind]) + BEAST[2:] for kind in (0x00, 0x1A, 0x30, 0x35, 0xE2, 0xE4)),
+                 b"garbage \x1a1123456789 and more\n", b"1234\n", b"x *1234;\n", b"5;x;%s\n" % E.encode(),
+                 b"*%sG;\n" % E[:-1].encode(), b"x,%s,9\n" % E.encode(), garbage):
+        cases.add("shown", flags, [data, OPEN], [], shows=[None], note="no format is shown yet")
+    for data, form, lines, counts in (
+        (BAR, "avr", ["0 E"], {"damaged": 2}), (E.encode() + b"\n", "avr", ["0 E"], {"damaged": 2}),
+        (log(7), "log", ["7 E"], {"damaged": 2}), (row("7"), "csv", ["7000 E"], {"damaged": 2}),
+        (message(M, 1) + status + message(M, 2), "beast", [], {"damaged": 2, "mode_ac": 2}),
+    ):
+        counts = {**counts, **({"damaged": 1, "mode_ac": 1} if form == "avr" else {})}
+        cases.add("shown", flags, garbage + data, lines, counts, shows=[form, None], note="behind garbage")
+    for data, lines, counts in (
+        (BEAST + message(O, 1)[:-1], ["1000 E"], {"damaged": 1}), (b"\x1a3x", [], {"damaged": 1}), (status, [], {}),
+        (receiver, [], {"receiver_ids": 1}), (BEAST + b"x" + BEAST, ["1000 E"] * 2, {"damaged": 1}),
+    ):
+        cases.add("short", flags, data, lines, counts, shows=["beast", None])
+    for data, lines, counts in (
+        (BEAST, ["1000 E"], {}), (message(M, 1), [], {"mode_ac": 1}), (status + BEAST, ["1000 E"], {}),
+        (BEAST + b"\x1a", ["1000 E"], {}),
+    ):
+        cases.add("short", flags, b"x" + data, lines, {**counts, "damaged": 1}, shows=[None, None],
+                  note="one message at the end of a source is enough")
+    for data in (BEAST + BEAST[:-1], BEAST + BEAST[:5], BEAST + b"x", BEAST + b"\x1a9", BEAST[:-1], status,
+                 b"\x1a1" + bytes(8)):
+        cases.add("short", flags, b"x" + data, [], {"damaged": 1}, shows=[None, "no_frame"],
+                  note="damage begins the count of messages anew")
     for data in (b"2040\n", b"*20G0;\n", b"x*2040;\n", b"*;", b"7 x\n", b"7,,x\n", b"time,raw\n", b"\x1a9", b"\x1a\x1a",
                  b"7,,%s;\n" % E.encode()):
         cases.add("shown", flags, [data, OPEN], [], shows=[None], note="no format is shown yet")
@@ -277,6 +323,11 @@ def add_text_before(cases: Cases) -> None:
         (b"time;icao24;rawmsg\n7 %s\n" % e, ["7 E"], {"damaged": 1}), (b"2040\n%s\n" % e, ["0 E"], {"mode_ac": 1}),
         (b"\x1f\x8b\x08\n7 %s\n" % e, ["7 E"], {"damaged": 1}), (b"a,b,*%s;\n" % e, ["0 E"], {"damaged": 1}),
         (b"7;x;%s\n7 %s\n" % (e, e), ["7 E"], {"damaged": 1}),
+        (b"5.5 *%s;\n" % e, ["0 E"], {"damaged": 1}), (b'{"a":1}*%s;\n' % e, ["0 E"], {"damaged": 2}),
+        (b"\0*%s;\n" % e, ["0 E"], {"damaged": 1}), (b"2026-11-29 22:00:00 *%s;\n" % e, ["0 E"], {"damaged": 3}),
+        (b"x" * 600 + b"*%s;\n" % e, ["0 E"], {"damaged": 1}),
+        (b"icao24,rawmsg\n" + row("7"), ["7000 E"], {"damaged": 1}),
+        (b"x\n5 %sG\n7 %s\n" % (e[1:], e), ["7 E"], {"damaged": 2}),
         (b"\x1a3*%s;\n" % e, [], {"damaged": 2}), (b"\n\n\n7 %s\n" % e, ["7 E"], {}),
         (b"5 %s\n7,x,%s\n" % (e, e), ["5 E"], {"damaged": 1}), (b"5,x,%s\n7 %s\n" % (e, e), ["5000 E"], {"damaged": 1}),
     ):
@@ -293,13 +344,22 @@ STRANGERS: Dict[str, Tuple[bytes, ...]] = {
     "packed": (b"\x1f\x8b\x08", b"BZh", b"\xfd7zXZ", b"\x28\xb5\x2f\xfd", b"PK\3\4", b"BZh9\n"),
     "utf16": (b"\xff\xfe7\0", b"\xfe\xff\x007", b"\xff\xfe\n\0"[:2] + b"x\0"),
     "json": (b"{", b'{"now":1}\n', MARK + b"{}\n"),
-    "semicolons": (b"time;rawmsg\n", b"7;x;%s\n" % E_TEXT, b"x;RAWMSG", b"7; %s \n" % S.encode()),
-    "tabs": (b"time\trawmsg\n", b"7\tx\t%s\n" % E_TEXT),
+    "semicolons": (b"time;icao24;rawmsg\n1.5;40621d;%s\n" % E_TEXT, b"1,5;40621d;%s\n" % E_TEXT, b"%s;1.5\n" % E_TEXT,
+                   b'"rawmsg";"time"\r\n"%s";"1.5"\r\n' % E_TEXT, b"time;rawmsg\n", b"7;x;%s\n" % E_TEXT, b"x;RAWMSG",
+                   b"7; %s \n" % S.encode()),
+    "tabs": (b"1.5\t\t%s\r\n" % E_TEXT, b"rawmsg\ttime;\n7000000000000,x,%s\n" % E_TEXT, b"time\trawmsg\n",
+             b"7\tx\t%s\n" % E_TEXT),
     "no_time": (b"icao24,rawmsg\n", b"rawmsg", b"x,\"rawmsg\"\n"),
-    "no_rawmsg": (b"time,icao24,lat\n", b"timestamp,ICAO24\n", b"icao24,mintime"),
-    "no_seconds": (b"1700000000000,x,%s\n" % E_TEXT, b"2016-03-14T23:00:02Z,,%s\n" % E_TEXT, b"x,,%s" % S.encode()),
-    "no_names": (b"7,%s\n" % E_TEXT, b"%s,7\n" % E_TEXT, b"7,x,y,%s" % S.encode()),
-    "no_frame": (b"x", b"\n", b"2040\n", b"MSG3", b"\x1f\x8b\x07", b"BZ", b"\xff\xfe7x", b"\xfe\xff7x", b"PK\3\5",
+    "no_rawmsg": (b'lat, "ICAO24" ,MinTime\r\n', b"time,icao24,lat\n", b"timestamp,ICAO24\n", b"icao24,mintime"),
+    "no_seconds": (b"# a comment\n\n1700000000000,x,%s\n" % E_TEXT, b"40621d,1.5,%s\n" % E_TEXT,
+                   b"2023-11-14 22:13:20,,%s\n" % S.encode(), b"1700000000000,x,%s\n" % E_TEXT,
+                   b"2016-03-14T23:00:02Z,,%s\n" % E_TEXT, b"x,,%s" % S.encode()),
+    "no_names": (b"40621d,%s" % E_TEXT, b"5,9%s\n" % E_TEXT[1:], b"1.5,,,%s\n" % S.encode(), b"7,%s\n" % E_TEXT,
+                 b"%s,7\n" % E_TEXT, b"7,x,y,%s" % S.encode()),
+    "no_frame": (b"icao24;lat;lon\n40621d;5;6\n", b"40621d,5,6\n", b"%s%s,5\n" % (E_TEXT, E_TEXT), b"icao24,lat\n5,6\n",
+                 b"xrawmsg,5\n", b"x %s,5\n" % E_TEXT, b"5,2040\n", b"5;2040\n",
+                 b"5x,y,%s,%s\n" % (E_TEXT, b"z" * 512), b"x", b"\n", b"2040\n", b"MSG3", b"\x1f\x8b\x07", b"BZ",
+                 b"\xff\xfe7x", b"\xfe\xff7x", b"PK\3\5",
                  b"sel,\n",
                  bytes(256) + b"ustar", bytes(258) + b"ustar", b"time,lat\n", b"x,y,2040\n", b"time;raw\n", b"\x1a"),
 }
@@ -338,6 +398,12 @@ def add_limit(cases: Cases) -> None:
             cases.add("limit", flags, [b"\0" * (size - len(whole) - 1), b"\n", whole],
                       ["7 E"] * (size - whole.endswith(b"\n") <= limit), {"damaged": 1},
                       note="at these bytes, the last line counts as it is")
+        cases.add("limit", flags, [b"x" * (size - 2 * len(BEAST)), BEAST, BEAST], ["1000 E"] * 2 * (size <= limit),
+                  {"damaged": 1}, note="two messages have to end within these bytes")
+        tail = b"x\n\r" + BAR[:-1]
+        cases.add("limit", flags, [b"\n" * (size - len(tail)), tail], ["0 E"] * (size <= limit), {"damaged": 1},
+                  note="a line that no line feed ends")
+    cases.add("limit", flags, [b"\n" * (limit - 7), b'{"a":1}', OPEN], [], {"damaged": 1}, shows=[None, "json"])
     cases.add("limit", flags, [b"\0" * limit, b"\n", log(7, 8), end(0), log(7, 8)], ["7 E", "8 E"], {"damaged": 1},
               note="a source without frames is left out to its end")
     cases.add("limit", flags, [b"\0" * limit, LOST, log(7, 8)], ["7 E", "8 E"], {"damaged": 1},

@@ -9,6 +9,7 @@ from cases.feed_words import LOST, RATE, Cases, Call, E, O, S, clocked, clocks, 
 TURN = 1 << 48  # ticks
 MOST = (1 << 64) - 1
 LEAP = 600_000  # milliseconds, if no other is given
+DAY = 86_400_000  # milliseconds
 NOW = 1_700_000_000_000  # an arrival: milliseconds since 1970
 BARE = b"*%s;" % E.encode()
 
@@ -16,7 +17,8 @@ BARE = b"*%s;" % E.encode()
 def add_feed_times(collection: Collection) -> None:
     """Adds the cases about times."""
     cases = Cases(collection)
-    for part in (add_late_rows, add_leaps, add_runs, add_first_rows, add_ends_of_runs, add_largest_times,
+    for part in (add_late_rows, add_leaps, add_runs, add_backs, add_first_rows, add_digits, add_ends_of_runs,
+                 add_largest_times,
                  add_recorded_clocks, add_clock_turns, add_live_clocks, add_ahead, add_arrivals, add_orders,
                  add_sources, add_lost, add_flights):
         part(cases)
@@ -99,6 +101,10 @@ def add_runs(cases: Cases) -> None:
         last = len(told) - sum(gives)
         cases.add("run", flags, each([*begun, *run]), times([*begun, *told]), {"aside": aside}, [0, 2, *gives, last])
         cases.add("run", flags, ticking([*begun, *run]), times([*begun, *told]), {"aside": aside}, [1, 1, *gives, last])
+
+
+def add_backs(cases: Cases) -> None:
+    """Times that go back are moved on, in a recording by the leap and 1 ms after the latest timestamp."""
     for run, gives, told, counts in (
         ([1, 2, 3], [0, 0, 3], [605_002, 605_003, 605_004], {"breaks": 1}),
         ([1, 1, 1], [0, 0, 3], [605_002] * 3, {"breaks": 1}),
@@ -141,6 +147,16 @@ def add_first_rows(cases: Cases) -> None:
               {"breaks": 1}, [1, 0, 0, 3, 0], note="a clock has no first time that waits")
 
 
+def add_digits(cases: Cases) -> None:
+    """Rows about the powers of ten, where the number of digits changes, and one before them."""
+    for power in (1, 2, 3, 4, 9, 12):
+        edge = 10**power
+        moments = [edge - 3, edge - 2, edge - 1, edge, edge + 1, edge - 1]
+        cases.add("digits", "LateRow", log(*moments), times([*moments[:5], edge + 1]))
+        table = b"".join(row(f"{moment // 1000}.{moment % 1000:03}") for moment in moments)
+        cases.add("digits", "LateRow", table, times([*moments[:5], edge + 1]))
+
+
 def add_ends_of_runs(cases: Cases) -> None:
     """What waits at the end: one that goes ahead is told, two that follow each other are, and others are set aside."""
     far = 10**7
@@ -179,6 +195,10 @@ def add_recorded_clocks(cases: Cases) -> None:
     cases.add("clock", "ClockOfZero", message(E, 0) + clocked(O, 0)[:0] + message(O, 7 * RATE) + message(E, 0),
               ["0 E", "7 O", "7 E"], note="a frame without a time has the timestamp before it")
     cases.add("clock", "ClockOfZero", clocks(7) + BARE + clocked(O, 0), ["7 E", "7 E", "7 O"])
+    for start in (1, LEAP, LEAP + 1, 1000 * LEAP):
+        for none in (clocked(O, 0), b"*%s;\n" % O.encode()):
+            cases.add("clock", "ClockOfZero", none * 2 + clocks(start, start + 100), ["0 O", "0 O", f"{start} E",
+                      f"{start + 100} E"], note="the first clock is as it is, however late")
     cases.add("clock", "ClockIgnored", clocks(7, 9), ["0 E", "0 E"], by_arrival=True)
     cases.add("clock", "ClockIgnored", log(7, 9), ["7 E", "9 E"], by_arrival=True, note="times of rows are no clock")
     cases.add("clock", "Clock", message(S, 9 * RATE) + message(E, 7 * RATE), ["7 E"], {"DF11": 1},
@@ -198,6 +218,9 @@ def add_clock_turns(cases: Cases) -> None:
         start = RATE + half
         cases.add("turn", "ClockTurn", clocked(E, start) + clocked(O, (start + ahead) % TURN), [f"{start // RATE} E"],
                   {"aside": 1}, leap=far, note="half a turn ahead is back")
+    days = [0, 100, 200, 271, 272, 400, 500]
+    cases.add("turn", "ClockTurn", [clocked(E, (1 + day * DAY * RATE) % TURN) for day in days],
+              times([day * DAY for day in days]), leap=130 * DAY, note="the clock turns after 271 days")
     back = TURN - 500 * RATE  # half a second before the clock turns
     cases.add("turn", "ClockTurn", clocked(E, 0x0000000000FF) + clocked(O, back), ["0 E", "0 O"],
               note="a clock before 0 is at 0, and late")
@@ -346,6 +369,11 @@ def add_lost(cases: Cases) -> None:
               note="bytes of a connection without a format are damaged")
     cases.add("lost", flags, [log(7), LOST, LOST, log(8), end(0)], times([7, 8]), gives=[0, 0, 0, 2, 0],
               note="a first row that waits comes with the next call")
+    cases.add("lost", flags, [(clocks(1000), 5000), LOST, (log(7000, 7001, 7002), 6000)],
+              times([5000, 7000, 7001, 7002]),
+              live=True, note="rows are as they are, though a clock was heard before")
+    cases.add("lost", flags, [log(7, 8), LOST, b"time;rawmsg\n", end(0)], times([7, 8]), {"damaged": 1}, [2, 0, 0, 0],
+              ["log", None, None, "semicolons"])
     cases.add("lost", flags, [log(7), LOST, end(0)], times([7]), gives=[0, 0, 1])
     far = 10**7
     for run, told, counts in (([far], [far], {}), ([1], [], {"aside": 1}), ([far, 1], [], {"aside": 2}),
