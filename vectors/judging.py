@@ -9,6 +9,7 @@ from typing import Any, Dict, List, NamedTuple, Optional
 
 TOLERANCE = Fraction(11, 10**7)  # degrees: what a decoder prints with six decimals, and a little
 PLAIN_NUMBER = re.compile(r"\s*[-+]?[0-9._]{1,1000}(?:/[0-9_]{1,1000}|[eE][-+]?[0-9]{1,3})?\s*")
+SOURCES = (None, "beast", "avr", "csv", "log")  # what a source may be that is read
 KINDS = ("passed", "wrong", "none", "policy", "unsupported", "lost")
 
 
@@ -79,6 +80,15 @@ def same_lines(expected: List[Dict[str, Any]], given: Any, exact: bool) -> bool:
     return True
 
 
+def same_feed(expected: Dict[str, Any], given: Dict[str, Any], exact: bool) -> bool:
+    """The same lines of a feed. Who is exact gives its counts, and names a source without frames, at least at last."""
+    told = {**expected, "source": expected["after"][-1][1]} if "after" in expected else expected
+    needed = {"lines", "counts", *["source"] * (told.get("source") not in SOURCES)} if exact else {"lines"}
+    if "after" in given:
+        needed.discard("source")
+    return all(given.get(key) == told[key] for key in needed | set(told) & set(given))
+
+
 def matches(expected: Dict[str, Any], given: Dict[str, Any], exact: bool) -> bool:
     """The answer is the expected one. Who is not exact may leave out what is beside the point, and words of refusals.
     """
@@ -88,6 +98,8 @@ def matches(expected: Dict[str, Any], given: Dict[str, Any], exact: bool) -> boo
         return "refused" not in given
     if "refused" in expected or "refused" in given:
         return "refused" in expected and "refused" in given and (not exact or expected["refused"] == given["refused"])
+    if "counts" in expected:
+        return same_feed(expected, given, exact)
     if "lines" in expected:
         return same_lines(expected["lines"], given.get("lines"), exact)
     if is_place(expected):

@@ -20,14 +20,14 @@ import sys
 import tempfile
 from collections import Counter
 from types import ModuleType
-from typing import IO, Any, Dict, Iterator, List, NamedTuple, Optional, Set, Tuple
+from typing import IO, Any, Callable, Dict, Iterator, List, NamedTuple, Optional, Set, Tuple
 
 if __name__ == "__main__":
     sys.dont_write_bytecode = True
     TOP = os.path.dirname(os.path.dirname(os.path.dirname(os.path.abspath(__file__))))
     sys.path[:0] = [f"{TOP}/feeds", f"{TOP}/feeds/tests", f"{TOP}/clib"]
 
-from damaged import RULES, Rewrite, by_line, number
+from damaged import number
 from process import TOP, program
 from streams import DAY, MARK, MLAT, TURN, Stream, made
 
@@ -117,15 +117,81 @@ class Feeds:
 
 # ---- rules
 
+Rewrite = Callable[[bytes], bytes]
+SPACES = b"\t\x0b\x0c \x1c\x1d\x1e\x1f"
+NO_SPACE = bytes(ord("_") if byte in SPACES else byte for byte in range(256))
+ASCII = bytes(ord("_") if byte >= 0x80 or byte == 0 else byte for byte in range(256))
+MARK_ENDS = bytes(ord("\n") if byte in b"\xef\xbb\xbf" else byte for byte in range(256))
+
+
+def by_line(change: Rewrite) -> Rewrite:
+    return lambda data: b"\n".join(map(change, data.split(b"\n")))
+
+
+def kept_ends(line: bytes) -> bytes:
+    """Spaces around a line are no longer stripped, nor are carriage returns but one at the end."""
+    line = line[:-1] if line.endswith(b"\r") else line
+    return line if line == line.strip() else b"_" + line
+
+
+def wrapped(line: bytes) -> bytes:
+    """A star and a semicolon belong together: one without the other is damage."""
+    word = line.removesuffix(b"\r").partition(b" ")[2]
+    return line if word.startswith(b"*") == word.endswith(b";") else b"_" + line
+
+
+def cells_of(line: bytes) -> Iterator[bytes]:
+    """The cells of a row. A comma ends a cell, but for one between the quotes of a cell that begins with a quote."""
+    start, quoted = 0, False
+    for place, byte in enumerate(line + b","):
+        if byte == 0x22 and line[start : start + 1] == b'"':
+            quoted = not quoted
+        if byte == 0x2C and not quoted:
+            yield line[start:place]
+            start = place + 1
+    if quoted:
+        yield line[start:]
+
+
+def bare(line: bytes) -> bytes:
+    """Spaces around a cell are left out, and then quotes around it. Other quotes are bytes of the cell, and so are the
+    spaces within quotes."""
+    cells = []
+    for cell in cells_of(line.removesuffix(b"\r")):
+        cell = cell.strip(b" \t\n\r\f")
+        cell = cell[1:-1] if len(cell) > 1 and cell[:1] == cell[-1:] == b'"' else cell
+        for byte in (b'"', b",", b"\r"):
+            cell = cell.replace(byte, b"_")
+        text = cell.decode("latin-1")  # (whose strip takes more bytes for spaces)
+        cells.append(cell if text == text.strip() else b"_" + cell)
+    return b",".join(cells)
+
+
+def short(line: bytes) -> bytes:
+    """A row of more than 512 bytes is damage."""
+    return line if len(line) <= 512 else b"x"
+
+
+SPACED = "spaces belong to a line and to a cell"
 BOM = {"a byte order mark at the start of a line is left out": by_line(lambda line: line.removeprefix(MARK))}
 READ_RULES: Dict[str, Dict[str, Rewrite]] = {
     "beast": {"an id of a receiver is no damage": lambda data: re.sub(
         rb"\x1a(\x1a|\xe3)", lambda one: one[0] if one[1] == b"\x1a" else b"\x1a4", data)},
-    "avr": {**RULES["avr"], "a frame is found on a line of any length": by_line(
-        lambda line: line if len(line) <= 4096 else re.sub(rb"([*:@%<][0-9A-Fa-f]+;)", rb"\n\1\n", line))},
-    "csv": {**BOM, **RULES["csv"], "a column timestamp is a time": by_line(
-        lambda line: line.replace(b"timestamp", b"time") if b"rawmsg" in line else line)},
-    "log": {**BOM, **RULES["log"]},
+    "avr": {
+        "a carriage return ends a line": lambda data: data.replace(b"\r", b"\n"),
+        "each byte of a byte order mark ends a line": lambda data: data.translate(MARK_ENDS),
+        "a bare frame may follow a semicolon": lambda data: data.replace(b";", b";\n"),
+        SPACED: lambda data: data.translate(NO_SPACE),
+        "a frame is found on a line of any length": by_line(
+            lambda line: line if len(line) <= 4096 else re.sub(rb"([*:@%<][0-9A-Fa-f]+;)", rb"\n\1\n", line))},
+    "csv": {
+        **BOM,
+        "only spaces and quotes around a cell are left out": by_line(bare),
+        "bytes that are not ASCII do no harm in another column": lambda data: data.translate(ASCII),
+        "a row has at most 512 bytes": by_line(short),
+        "a column timestamp is a time": by_line(
+            lambda line: line.replace(b"timestamp", b"time") if b"rawmsg" in line else line)},
+    "log": {**BOM, SPACED: by_line(kept_ends), "a star and a semicolon belong together": by_line(wrapped)},
 }
 
 

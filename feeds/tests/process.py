@@ -6,6 +6,7 @@ import glob
 import gzip
 import os
 import re
+import resource
 import runpy
 import shutil
 import signal
@@ -20,7 +21,7 @@ from typing import IO, Any, Callable, Dict, Iterator, List, Sequence, Tuple, Uni
 
 import squitter_output
 import squitter_port
-from trying import AIR_EVEN, AIR_ODD, REPLY, beast, clocked, expect, row, same, took
+from trying import AIR_EVEN, AIR_ODD, REPLY, Late, beast, clocked, expect, row, same, took
 
 TOP = os.path.dirname(os.path.dirname(os.path.dirname(os.path.abspath(__file__))))
 FEED = f"{TOP}/feeds/squitter-feed"
@@ -460,3 +461,29 @@ def silent_port() -> None:
         for link in links:
             link.close()
     same(said, [b"squitter-feed: 1 written\n"] * 2)
+
+
+ENOUGH = 1_000_000  # rows in a second of processor time, on a busy machine; alone it is several times as many
+
+
+def fast_rows() -> None:
+    """At least so many rows of CSV in a second of processor time, and lines of a log."""
+    count, start = 200_000, 1_495_231_231_000
+    rows = b"".join(b"%d.%03d,40621d,%s\n" % (*divmod(start + k, 1000), AIR_EVEN.encode()) for k in range(count))
+    log = b"".join(b"%d %s\n" % (start + k, AIR_EVEN.encode()) for k in range(count))
+    environment = {name: text for name, text in os.environ.items() if name != "COVERAGE_PROCESS_START"}
+    with tempfile.TemporaryDirectory() as work:
+        for data in (rows, log):
+            with open(f"{work}/feed", "wb") as file:
+                file.write(data)
+            taken = []
+            for source in (f"{work}/feed", "/dev/null", f"{work}/feed", "/dev/null", f"{work}/feed"):
+                before = resource.getrusage(resource.RUSAGE_CHILDREN)
+                done = subprocess.run([FEED, source], capture_output=True, env=environment)
+                after = resource.getrusage(resource.RUSAGE_CHILDREN)
+                taken.append(after.ru_utime + after.ru_stime - before.ru_utime - before.ru_stime)
+                same(done.stdout.count(b"\n"), count * (source != "/dev/null"))
+            # (a start takes longer than the rows, and not the same each time: the difference may be below 0)
+            rows_alone = min(taken[::2]) - min(taken[1::2])
+            if rows_alone > count / ENOUGH:
+                raise Late(f"{count} rows took {rows_alone:.3f} s of processor time")

@@ -1,4 +1,4 @@
-"""How squitter-feed finds the format of a source: by which bytes, in any pieces, and of archives too."""
+"""How squitter-feed unpacks archives, and refuses what is no feed. Searching for a format is linear."""
 from __future__ import annotations
 
 import bz2
@@ -14,197 +14,25 @@ from typing import Callable, Dict, Iterable, List, Optional, Tuple
 
 import squitter_unpack
 from process import line_of, listening, ran, started
-from squitter import Stranger
-from squitter._errors import STRANGERS
 from squitter_feed import Feed, Refused
 from squitter_unpack import Unpacking
-from trying import AIR_EVEN, AIR_ODD, GROUND, REPLY, Late, beast, clocked, expect, row, same
+from trying import AIR_EVEN, GROUND, Late, beast, expect, same
 
 E = AIR_EVEN.encode()
-GARBAGE = b"\x00\xff\x1a9 garbage 12\n1234\n"
 LINE = b"*%s;\n" % E
 UNDECIDED = 16_384  # bytes within which a source has to show its format
-LONGEST_LINE = 512
-AVR, BEAST, CSV, LOG = "AVR", "BEAST", "CSV", "LOG"
-STATUS = b"\x1a4" + bytes(range(1, 22))
-RECEIVER = b"\x1a\xe3" + bytes(range(8))
 
 
-def decided(pieces: Iterable[bytes], ends: bool = False) -> Tuple[object, int]:
-    """What pieces are taken for, a format's name or the words of a refusal; and after how many bytes. At the end of a
-    source that shows no format, how many frames were found."""
-    feed, count = Feed(True, lambda _: None), 0
-    try:
-        for piece in pieces:
-            count += len(piece)
-            feed.hear(piece, 0)
-            if feed.feed.format is not None:
-                return feed.feed.format.name, count
-    except Refused as why:
-        return str(why), count
-    if not ends:
-        return None, count
-    feed.end(0)
-    counts = feed.feed.counts
-    return str(feed.refusal) if feed.refusal else counts.found - counts.damaged, count
+def decided(pieces: Iterable[bytes]) -> Optional[str]:
+    """Returns the format that pieces are taken for, if they show one."""
+    feed = Feed(True, lambda _: None)
+    for piece in pieces:
+        feed.hear(piece, 0)
+    return feed.feed.format.name if feed.feed.format is not None else None
 
 
 def byte_by_byte(data: bytes) -> List[bytes]:
     return [data[place : place + 1] for place in range(len(data))]
-
-
-def cut_anywhere(data: bytes) -> Tuple[object, int]:
-    """What data are taken for: the same of the whole, byte by byte, and of two pieces; and by how many bytes."""
-    wanted, count = decided(byte_by_byte(data))
-    same(decided([data])[0], wanted, data[:80], "in one piece")
-    for place in range(1, min(len(data), 400)):
-        same(decided([data[:place], data[place:]])[0], wanted, data[:80], "cut at", place)
-    return wanted, count
-
-
-def told_apart() -> None:
-    """Formats are told apart after garbage too, by the last byte of the line or of the second message. The start of a
-    message shows Beast if nothing comes before it."""
-    # Bytes, their format, and how many of them show it: a marked frame is whole at its semicolon.
-    avr = [LINE, clocked(AIR_EVEN, 1), b"*0000;\n", b"\xef\xbb\xbf" + LINE]
-    rows = [(data, AVR, len(data) - 1) for data in avr]
-    rows += [(data, name, len(data)) for data, name in (
-        (E + b"\n", AVR),
-        (b"%s\n" % E[:14], AVR),
-        (b"\r%s\r\n" % E, AVR),
-        # A frame behind other text shows AVR text at the end of its line.
-        *((before + LINE, AVR) for before in (
-            b"\r", b"  ", b"\t", b"\x00", b"rx1: ", b"2026-11-29 22:00:00 ", b"x,", b'{"a":1}', b"MSG,3,", b"5.5 ")),
-        (b"rx1: " + clocked(AIR_EVEN, 1), AVR),
-        (b"x" * 600 + LINE, AVR),
-        (beast(AIR_EVEN) + beast(REPLY), BEAST),
-        (beast("0000") + beast("0000"), BEAST),
-        (beast(AIR_EVEN) + STATUS + beast(AIR_EVEN, 0x1A1A), BEAST),  # (a status between them is no damage)
-        (beast(REPLY) + RECEIVER + beast(AIR_EVEN), BEAST),  # (nor is the id of a receiver)
-        (beast("1A" * 14, 0x1A1A1A1A1A1A, 0x1A) * 2, BEAST),
-        (row("1.5"), CSV),
-        (b"time,icao24,rawmsg\n", CSV),
-        (b"\xef\xbb\xbftime,icao24,rawmsg\n", CSV),
-        (b"5 %s\n" % E, LOG),
-        (b"5 *%s;\r\n" % E, LOG),
-    )]
-    for data, wanted, size in rows:
-        for front in (b"", GARBAGE):
-            for after in (b"", LINE, b"5 %s\n" % E, beast(AIR_ODD) * 3, LINE + beast(AIR_ODD) * 3):
-                shows = 2 if wanted == BEAST and not front else size
-                same(cut_anywhere(front + data + after), (wanted, len(front) + shows), front + data)
-        if size == len(data) and data.endswith(b"\n"):
-            same(decided([data[:-1]]), (None, len(data) - 1), data)
-            expect(isinstance(decided([data[:-1]], ends=True)[0], int), data, "at the end")
-
-
-def not_yet() -> None:
-    """What only looks like a format does not decide it: after other bytes one message, or two that are apart; a line
-    that has bytes by chance; a start of unknown type."""
-    one = beast(AIR_EVEN)
-    rows = [
-        b"x" + one,
-        b"x" + (one + b"\x00") * 3,
-        b"x" + one + one[:-1],
-        b"x" + one + b"\x1a5" + one[2:],
-        b"x" + one + b"\x1a\x1a" + one,
-        b"x" + one + STATUS,  # (a status is no message)
-        b"x" + one + RECEIVER,  # (nor is the id of a receiver)
-        *(b"\x1a" + bytes([kind]) + one[2:] for kind in (0x00, 0x1A, 0x30, 0x35, 0xE2, 0xE4)),
-        b"garbage \x1a1123456789 and more\n",
-        b"1234\n",
-        b"x *1234;\n",  # (four digits may be any number)
-        b"5;x;%s\n" % E,  # (a row with semicolons)
-        b"*%sG;\n" % E[:-1],
-        b"x,%s,9\n" % E,
-    ]
-    for data in rows:
-        same(cut_anywhere(data), (None, len(data)), data)
-        same(cut_anywhere(data + LINE)[0], AVR, data) if data.endswith(b"\n") else None
-    text = b"garbage \x1a1123456789 and more\n" + LINE
-    same(cut_anywhere(text), (AVR, len(text) - 1), "an escape in text")
-
-
-def short_sources() -> None:
-    """A source that begins with the start of a message is Beast, whatever follows. After other bytes it is if it ends
-    with a message; after a cut one, or garbage, it is refused, and so is one without any message."""
-    one, odd = beast(AIR_EVEN, 5), beast(AIR_ODD, 0x1A1A1A)
-    for data in (one, one + odd[:-1], one + b"x" + odd, one[:-1], b"\x1a1", b"\x1a2", b"\x1a3x", STATUS, RECEIVER):
-        same(decided([data], ends=True), (BEAST, len(data)), data)
-        same(decided(byte_by_byte(data)), (BEAST, 2), data)
-    rows = [(one, 1), (beast("0000"), 1), (STATUS + one, 1), (one + b"\x1a", 1)]
-    for data, found in rows:
-        same(decided([b"x" + data], ends=True)[0], found, data)
-    # Damage begins the count of messages anew, so these show no format.
-    for data in (one + odd[:-1], one + odd[:5], odd + odd[:6], one + b"x", one + b"\x1a9"):
-        expect("no frame" in str(decided([b"x" + data], ends=True)[0]), data)
-    for data in (b"x" + one[:-1], b"\x1a", b"x", b"\n", b"x\x1a1" + bytes(8), b"x" + STATUS):
-        expect("no frame" in str(decided([data], ends=True)[0]), data)
-    same(decided([], ends=True), (0, 0), "nothing")
-
-
-def nothing_is_lost() -> None:
-    """All bytes are read in the format that is found: messages before damage are printed, and damage is counted."""
-    one, odd = beast(AIR_EVEN, 12_000), beast(AIR_ODD, 24_000)
-    even_line, odd_line = b"1 %s\n" % E, b"2 %s\n" % AIR_ODD.encode()
-    both = even_line + odd_line
-    # Each third message lacks its escape.
-    cut = b"".join(one[1:] + beast(AIR_EVEN, 12_000 * number) + beast(AIR_EVEN, 12_000 * (number + 1))
-                   for number in range(1, 801, 2))
-    # A source, its lines, and how many items are damage.
-    rows = [
-        (one + odd + b"\x1a3\x00", both, 1),
-        (one + b"x" + odd, both, 1),
-        (b"x" + one + b"x" + odd * 3, even_line + odd_line * 3, 2),
-        (one[:9] + one + one[:12] + odd, both, 2),
-        (cut, b"".join(b"%d %s\n" % (number, E) for number in range(1, 801)), 400),
-        (b"x\n5 %sG\n" % E[:-1] + b"1 %s\n" % E, even_line, 2),
-        (b'{"a":1}\nMSG,3\n' + both, both, 2),
-    ]
-    for data, wanted, damage in rows:
-        for pieces in ([data], byte_by_byte(data)):
-            feed = Feed(False, lambda _: None)
-            lines = b"".join(feed.hear(piece, 0) for piece in pieces) + feed.end(0)
-            same((lines, feed.feed.counts.damaged), (wanted, damage), data)
-
-
-def ids_of_receivers() -> None:
-    """The ids that readsb sends before its messages are skipped and counted, also with escapes, and at the end."""
-    data = b"".join(RECEIVER + beast(AIR_EVEN, 12_000 * number) for number in range(1, 401)) + b"\x1a\xe3\x1a\x1a1"
-    feed = Feed(False, lambda _: None)
-    lines = feed.hear(data, 0) + feed.end(0)
-    same(lines, b"".join(b"%d %s\n" % (number, E) for number in range(1, 401)))
-    counts = feed.feed.counts
-    same((counts.found, counts.written, counts.receiver_ids, counts.damaged), (801, 400, 401, 0))
-    same(feed.summary(), "400 written, 401 receiver ids")
-
-
-def borders() -> None:
-    """The first 16 KiB decide, to the byte; a row of more than 512 bytes does not."""
-    for size in (UNDECIDED - 1, UNDECIDED, UNDECIDED + 1):
-        front = b"x" * (LONGEST_LINE + 1) + b"\n"
-        text = front + b"x" * (size - len(front) - len(LINE)) + b"\n" + LINE.strip()
-        beasts = b"x" * (size - 2 * len(beast(AIR_EVEN))) + beast(AIR_EVEN) * 2
-        for data, name in ((text, AVR), (beasts, BEAST)):
-            for pieces in ([data], byte_by_byte(data), [data[:-1], data[-1:]], [data[:UNDECIDED], data[UNDECIDED:]]):
-                got, count = decided(pieces)
-                same(got if got == name else "refused" if "no frame" in str(got) else got,
-                     name if size <= UNDECIDED else "refused", size)
-                same(len(data), size)
-                expect(count == min(size, UNDECIDED) or len(pieces) < 3 and count == size, size, count)
-    expect("no frame" in str(decided([b"x" * UNDECIDED])[0]), "too many")
-    same(decided([b"x" * (UNDECIDED - 1)])[0], None, "not too many")
-    # The line that has begun counts at the border as it is.
-    for line, name in ((b"x\r" + LINE.replace(b"\n", b"\r"), AVR), (b'{"a":1},', "JSON"), (b"5 %s" % E, LOG)):
-        whole = b"\n" * (UNDECIDED - len(line)) + line
-        for pieces in ([whole], byte_by_byte(whole)):
-            expect(name in str(decided(pieces)[0]) and decided(byte_by_byte(whole)[:-1])[0] is None, line)
-        long = (line * UNDECIDED)[:UNDECIDED]
-        expect(name == LOG or name in str(decided([long])[0]), long[:99])
-    for size in (LONGEST_LINE - 1, LONGEST_LINE, LONGEST_LINE + 1):
-        line = b"5.000,x,%s," % E
-        line += b"y" * (size - len(line)) + b"\n"
-        same(cut_anywhere(line + row("6")), (CSV, size + 1 + len(row("6")) * (size > LONGEST_LINE)), size)
 
 
 def fast() -> None:
@@ -214,7 +42,7 @@ def fast() -> None:
     for data in (b"\n", b"\x1a", b"\x1a1", message, b"x", b"1234\n", b";", b"*0;", b"*" + b"0" * 8000 + b";", *rows):
         whole = b"x"[: len(data) < 8000] + (data * UNDECIDED)[: UNDECIDED - 200]
         begun = time.process_time()
-        same(decided(byte_by_byte(whole))[0], BEAST if data == message else None, data)
+        same(decided(byte_by_byte(whole)), "BEAST" if data == message else None, data)
         if time.process_time() - begun >= 3:
             raise Late(f"{data!r} took {time.process_time() - begun} seconds")
 
@@ -246,67 +74,7 @@ def refused_by_name() -> None:
             expect(text in str(heard(pieces)[1]), text, heard(pieces)[1])
     status, printed, said = ran(["-"], b"PK\x03\x04" + bytes(100))
     expect((status, printed) == (1, "") and "a zip archive" in said, said)
-    same(decided([tar.getvalue()[:257] + b"ustaR"])[0], None)
-
-
-def tables() -> None:
-    """A table that is not read is refused by what stands between its columns, or by the column that it lacks."""
-    semicolons, tabs, no_time, no_rawmsg, no_seconds, no_names = (
-        STRANGERS[Stranger(number)] for number in range(11, 17))
-    millis, comma = b"1700000000000,40621d,%s\n" % E, b"1,5;40621d;%s\n" % E
-    rows = [(b"time;icao24;rawmsg\n1.5;40621d;%s\n" % E, semicolons), (b"1.5;40621d;%s\n" % E.lower(), semicolons),
-            (b'"rawmsg";"time"\r\n"%s";"1.5"\r\n' % E, semicolons), (b"%s;1.5\n" % E, semicolons),
-            (b"time\ticao24\trawmsg\n1.5\t40621d\t%s\n" % E, tabs), (b"1.5\t\t%s\r\n" % E, tabs),
-            (b"icao24,rawmsg\n40621d,%s\n" % E, no_time), (b"Rawmsg,icao24\n%s,40621d\n" % E, no_time),
-            (b"rawmsg\n", no_time), (b"time,icao24,lat\n", no_rawmsg), (b'lat, "ICAO24" ,MinTime\r\n', no_rawmsg),
-            (b"40621d,%s\n" % E, no_names), (b"40621d,%s" % E, no_names), (b"5,9%s\n" % E[1:], no_names),
-            (b"1.5,,,02E197B00179C3\n", no_names), (millis, no_seconds), (b"40621d,1.5,%s\n" % E, no_seconds),
-            (b"2023-11-14T22:13:20Z,40621d,%s\n" % E, no_seconds),
-            (b"2023-11-14 22:13:20,,02E197B00179C3\n", no_seconds),
-            (b"# a comment\n\n" + millis * 3, no_seconds), (b"x\n" * 8000 + millis, no_seconds),
-            (comma, semicolons), (comma * 3, semicolons), (b"1.5;02E197B00179C3\r\n", semicolons),
-            (b"rawmsg\ttime;\n" + millis, tabs)]
-    others = [b"icao24;lat;lon\n40621d;5;6\n", b"40621d,5,6\n", b"%s%s,5\n" % (E, E), b"time,lat\n5,6\n",
-              b"icao24,lat\n5,6\n", b"xrawmsg,5\n", b"x %s,5\n" % E, b"5,2040\n", b"5;2040\n",
-              b"5x,y,%s,%s\n" % (E, b"z" * LONGEST_LINE)]
-    no_frame = ("no frame is in the first 16384 bytes: try --format=beast, avr, csv or log"
-                "; a table has the columns time (seconds), icao24 and rawmsg")
-    for data, what in rows + [(data, no_frame) for data in others]:
-        for front in (b"", b"\xef\xbb\xbf"):
-            whole = front + data
-            for pieces in ([whole], byte_by_byte(whole), [whole, b"\n" * UNDECIDED], [whole[:1500], whole[1500:]]):
-                lines, refusal = heard(pieces)
-                same((lines, str(refusal)), (b"", what), data)
-    for before in (LINE, b"x\n" * 1100, b"x"):
-        feed = Feed(True, print)
-        feed.hear(before, 0)
-        feed.disconnected()
-        try:
-            feed.hear(rows[0][0] + b"\n" * UNDECIDED, 0)
-            expect(False, "a table of another connection is taken")
-        except Refused as why:
-            same(str(why), semicolons, before)
-    # A table that is read is none of these, whatever its first row was.
-    same(heard([b"icao24,rawmsg\n" + row("1.5")]), (b"1500 %s\n" % E, None))
-    status, printed, told = ran(["-"], rows[0][0])
-    same((status, printed), (1, ""), told)
-    expect(told.startswith(f"squitter-feed: -: {semicolons}\n"), told)
-
-
-def byte_order_mark() -> None:
-    """A byte order mark at the start is left out, in each format and however it is cut; the first line is read."""
-    mark, odd = b"\xef\xbb\xbf", AIR_ODD.encode()
-    rows = [(b"%s\n%s\n" % (E, odd), (7, 7)), (LINE + b"*%s;\n" % odd, (7, 7)), (b"5 %s\n6 %s\n" % (E, odd), (5, 6)),
-            (row("1.5") + row("2", AIR_ODD), (1500, 2000)),
-            (b"time,icao24,rawmsg\n" + row("1.5") + row("2", AIR_ODD), (1500, 2000)),
-            (b"rawmsg,time\r\n%s,1.5\r\n%s,2\r\n" % (E, odd), (1500, 2000))]
-    for data, (first, second) in rows:
-        wanted = b"%d %s\n%d %s\n" % (first, E, second, odd)
-        for pieces in ([mark + data], byte_by_byte(mark + data), [mark, data], [gzip.compress(mark + data)]):
-            same(heard(pieces), (wanted, None), data)
-        status, printed, said = ran(["-"], mark + data)
-        same((status, [line.split()[1] for line in printed.splitlines()]), (0, [AIR_EVEN, AIR_ODD]), data)
-        expect(said.endswith("squitter-feed: 2 written\n"), data, said)
+    same(decided([tar.getvalue()[:257] + b"ustaR"]), None)
 
 
 def heard(pieces: Iterable[bytes], live: bool = True) -> Tuple[bytes, Optional[str]]:

@@ -1,10 +1,10 @@
-"""Streams of each format: what receivers send, and damage to it. feeds/tests/older.py gives them to two feeds."""
+"""Streams of each format: what receivers send, and damage to it."""
 from __future__ import annotations
 
 import random
+import re
 from typing import Dict, Iterator, List, NamedTuple, Set
 
-import damaged
 from trying import beast
 
 FORMS = ("beast", "avr", "csv", "log")
@@ -12,6 +12,8 @@ TURN = 1 << 48  # ticks after which a clock starts again
 MLAT = 0xFF004D4C4154  # the clock of frames that a server computed
 DAY = 86_400_000  # milliseconds
 MARK = b"\xef\xbb\xbf"  # of the byte order
+GARBAGE = (b"\x1a", b"\x1a1", b"\x1a4", b"\x1a9", b"*", b";", b"@", b"\r", b"\n", b" ", b'"', b",", b"\xb5", b"\x00",
+           b"8D")
 
 
 class Sent(NamedTuple):
@@ -86,6 +88,31 @@ def healthy(form: str, draw: random.Random, is_named: bool) -> Iterator[Sent]:
         yield spelled(said, new_frame(draw, addresses), kind < 2)
 
 
+def harmed_anywhere(data: bytes, draw: random.Random) -> bytes:
+    """The stream with one damage: bytes lost, doubled, changed or cut out; garbage, stray escapes; line feeds that are
+    missing; a line that is too long."""
+    place = draw.randrange(len(data) + 1)
+    count = draw.choice((1, 1, 2, 5, 20))
+    kind = draw.randrange(7)
+    if kind == 0:
+        return data[:place] + data[place + count :]
+    if kind == 1:
+        return data[: place + count] + data[place:]
+    if kind == 2:
+        return data[:place] + bytes([draw.randrange(256)]) + data[place + 1 :]
+    if kind == 3:
+        return data[:place] + draw.randbytes(count) + data[place:]
+    if kind == 4:
+        return data[:place] + draw.choice(GARBAGE) * draw.choice((1, 1, 2, 3)) + data[place:]
+    if kind == 5:
+        ends = [found.start() for found in re.finditer(b"\n", data)] or [place]
+        end = draw.choice(ends)
+        return data[:end] + data[end + 1 :]
+    if draw.randrange(8):
+        return data[:place]
+    return data[:place] + draw.choice((b" ", b"x", b"8", b",")) * draw.choice((480, 520, 4200)) + data[place:]
+
+
 def harmed(data: bytes, draw: random.Random) -> bytes:
     """Returns the stream with one damage."""
     place, size = draw.randrange(len(data) + 1), draw.choice((60, 2000, 20_000))
@@ -99,7 +126,7 @@ def harmed(data: bytes, draw: random.Random) -> bytes:
     if kind == 4:
         text = bytes(draw.choices(b"abc 12,;\n\r*@", k=size))
         return draw.choice((draw.randbytes(size), bytes(size), text)) + data
-    return damaged.harmed(data, draw)
+    return harmed_anywhere(data, draw)
 
 
 def made(form: str, draw: random.Random) -> Stream:

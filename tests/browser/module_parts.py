@@ -213,8 +213,8 @@ def vectors_in_browser(tries: Tries) -> str:
     asked = [case for case in cases() if case["op"] != "log"]
     questions = [{"op": case["op"], "input": case["input"]} for case in asked]
     got = browser.evaluate(
-        "load(moduleBytes()).then((library) => "
-        f"{json.dumps(questions)}.map((one) => squitterCase({{ AirHead, GroundHead }}, library, one)))"
+        "((made) => made.load(moduleBytes()).then((library) => "
+        f"{json.dumps(questions)}.map((one) => squitterCase(made, library, one))))(squitterModule())"
     )
     for case, answer in zip(asked, got):
         expect(answer == case["answer"], case["id"], answer, case["answer"])

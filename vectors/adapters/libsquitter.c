@@ -5,7 +5,7 @@
 #include <stdlib.h>
 #include <string.h>
 
-enum { WORDS = 8 };
+enum { WORDS = 128, LINE = 1 << 12, BYTES = 1 << 15, LEAP = 600000, ROOM = 120, COUNT = 2, HELD = 64 };
 
 /* What a call answered: a fault's words where it has one. */
 static int refused(squitter_fault fault) {
@@ -125,10 +125,156 @@ static void pair(char **words) {
   else if (read_position(words + 2, &site)) show_place(squitter_pair_at(older, newer, &site, &place), &place);
 }
 
+/* ---- feeds ---- */
+
+/* A source that is heard, as text or as arrays, and the words of the answer so far. `cut` is the size of the pieces, or
+ * 0 for those that are given. */
+typedef struct hearing {
+  squitter_feed feed;
+  squitter_order order;
+  squitter_fault fault;
+  int is_sorted, is_text;
+  size_t cut, length;
+  char words[BYTES];
+} hearing;
+
+static void tell(hearing *to, const char *word, uint64_t number, const char *after) {
+  to->length += (size_t)snprintf(to->words + to->length, sizeof to->words - to->length, word, number, after);
+}
+
+static void tell_frames(hearing *to, const uint64_t *moments, const uint8_t (*frames)[14], size_t count) {
+  char text[SQUITTER_FRAME_DIGITS + 1];
+  for (size_t i = 0; i < count; i++) {
+    squitter_text_of_frame(frames[i], text);
+    text[frames[i][0] < 0x80 ? 14 : 28] = 0;
+    tell(to, " %" PRIu64 ":%s", moments[i], text);
+  }
+}
+
+/* Tells the squitters that are due now that these came, or all that are held, if none came. */
+static void sort_frames(hearing *to, const uint64_t *moments, const uint8_t (*frames)[14], size_t count) {
+  uint64_t due[COUNT];
+  uint8_t of_due[COUNT][14];
+  squitter_done done = {0, COUNT};
+  for (size_t at = 0; done.written == COUNT && !to->fault.code; at += done.taken) {
+    to->fault = count ? squitter_order_take(&to->order, moments + at, count - at, frames + at, count - at, due, COUNT,
+                                            of_due, COUNT, &done)
+                      : squitter_order_flush(&to->order, due, COUNT, of_due, COUNT, &done);
+    if (!to->fault.code) tell_frames(to, due, (const uint8_t (*)[14])of_due, done.written);
+  }
+}
+
+/* Takes a piece, or ends the source if there is none, in as many calls as its squitters need. */
+static void hear(hearing *to, const char *piece, size_t length, uint64_t arrival) {
+  char text[ROOM], frame[SQUITTER_FRAME_DIGITS + 1];
+  uint64_t moments[COUNT], moment;
+  uint8_t frames[COUNT][14];
+  squitter_done done = {0, ROOM};
+  for (size_t at = 0; to->is_text && done.written + SQUITTER_LINE_BYTES > ROOM && !to->fault.code; at += done.taken) {
+    to->fault = piece ? squitter_feed_take_text(&to->feed, piece + at, length - at, arrival, text, ROOM, &done)
+                      : squitter_feed_finish_text(&to->feed, arrival, text, ROOM, &done);
+    for (size_t from = 0; from < done.written; from = (size_t)((char *)memchr(text + from, '\n', ROOM) - text) + 1)
+      if (sscanf(text + from, "%" SCNu64 " %28[0-9A-F]", &moment, frame) == 2)
+        tell(to, " %" PRIu64 ":%s", moment, frame);
+  }
+  done.written = COUNT;
+  for (size_t at = 0; !to->is_text && done.written == COUNT && !to->fault.code; at += done.taken) {
+    to->fault = piece ? squitter_feed_take(&to->feed, piece + at, length - at, arrival, moments, COUNT, frames, COUNT,
+                                           &done)
+                      : squitter_feed_finish(&to->feed, arrival, moments, COUNT, frames, COUNT, &done);
+    if (!to->is_sorted) tell_frames(to, moments, (const uint8_t (*)[14])frames, done.written);
+    else if (done.written) sort_frames(to, moments, (const uint8_t (*)[14])frames, done.written);
+  }
+  if (to->is_sorted && !piece) sort_frames(to, moments, (const uint8_t (*)[14])frames, 0);
+}
+
+static void tell_source(hearing *to) {
+  static const char *const names[] = {
+    "beast", "avr", "csv", "log", "-", "sbs", "tar", "packed", "utf16", "json", "no_frame", "semicolons", "tabs",
+    "no_time", "no_rawmsg", "no_seconds", "no_names"};
+  uint32_t number = 0;
+  if (!to->fault.code) to->fault = squitter_feed_format(&to->feed, &number);
+  tell(to, " =%.0" PRIu64 "%s", 0, names[number]);
+}
+
+static void tell_counts(hearing *to) {
+  squitter_counts counts;
+  uint64_t late = 0;
+  if (!to->fault.code) to->fault = squitter_feed_counts(&to->feed, &counts);
+  if (!to->fault.code && to->is_sorted) to->fault = squitter_order_late(&to->order, &late);
+  if (to->fault.code) return;
+  const struct { const char *name; uint64_t count; } all[] = {
+    {"found", counts.found}, {"written", counts.written}, {"mode_ac", counts.mode_ac},
+    {"multilaterated", counts.multilaterated}, {"receiver_ids", counts.receiver_ids}, {"damaged", counts.damaged},
+    {"aside", counts.aside}, {"breaks", counts.breaks}, {"ahead", counts.ahead}, {"late", late}};
+  for (size_t i = 0; i < sizeof all / sizeof *all; i++)
+    if (all[i].count) tell(to, " %.0" PRIu64 "%s=", 0, all[i].name), tell(to, "%" PRIu64 "%s", all[i].count, "");
+  for (size_t i = 0; i < 25; i++)
+    if (counts.formats[i]) tell(to, " DF%" PRIu64 "=%s", i, ""), tell(to, "%" PRIu64 "%s", counts.formats[i], "");
+}
+
+/* A call: `lost`, `end:ARRIVAL` or `take:ARRIVAL:TIMES:BYTES`. */
+static void hear_call(hearing *to, const char *call) {
+  static char bytes[BYTES];
+  const char *digits = strrchr(call, ':');
+  uint64_t arrival = strlen(call) > 4 ? strtoull(strchr(call, ':') + 1, 0, 10) : 0;
+  size_t length = 0, times = 1;
+  if (*call == 'l') to->fault = squitter_feed_disconnected(&to->feed);
+  if (*call == 'e') hear(to, 0, 0, arrival);
+  if (*call == 't') {
+    times = strtoull(strchr(strchr(call, ':') + 1, ':') + 1, 0, 10);
+    unsigned byte;
+    for (size_t k = 0; k < times; k++)
+      for (const char *at = digits + 1; sscanf(at, "%2x", &byte) == 1 && length < sizeof bytes; at += 2)
+        bytes[length++] = (char)byte;
+    size_t size = to->cut ? to->cut : length;
+    for (size_t at = 0; at < length || !at; at += size ? size : 1)
+      hear(to, bytes + at, length - at < size ? length - at : size, arrival);
+  }
+  tell_source(to);
+}
+
+/* feed FORMAT LEAP LATE REORDER FLAGS CALL .., with pieces of `cut` bytes. */
+static void hear_source(hearing *to, int count, char **words) {
+  static const char *const names[] = {"beast", "avr", "csv", "log"};
+  squitter_block block = {squitter_feed_size(), malloc(squitter_feed_size())};
+  squitter_block of_order = {squitter_order_size(HELD), malloc(squitter_order_size(HELD))};
+  uint32_t format = SQUITTER_FEED_AUTO, flags = (strchr(words[4], 'l') ? SQUITTER_FEED_LIVE : 0)
+    + (strchr(words[4], 'b') ? SQUITTER_FEED_BY_ARRIVAL : 0) + (strchr(words[4], 'a') ? SQUITTER_FEED_ALL_FORMATS : 0);
+  for (uint32_t i = 0; i < 4; i++) if (!strcmp(words[0], names[i])) format = i;
+  to->is_sorted = words[3][0] != '-';
+  to->fault = squitter_feed_new(&to->feed, block, format, words[1][0] == '-' ? LEAP : strtoull(words[1], 0, 10),
+                                words[2][0] == '-' ? 0 : strtoull(words[2], 0, 10), flags);
+  if (!to->fault.code && to->is_sorted)
+    to->fault = squitter_order_new(&to->order, of_order, strtoull(words[3], 0, 10));
+  for (int i = 5; i < count && !to->fault.code; i++) hear_call(to, words[i]);
+  tell_counts(to);
+  squitter_feed_free(&to->feed), squitter_order_free(&to->order);
+  free(block.memory), free(of_order.memory);
+}
+
+/* Hears a source as text and as arrays, each as it is cut and byte by byte: all have to come to the same. */
+static void feed(int count, char **words) {
+  static hearing heard[4];
+  int is_sorted = words[3][0] != '-';
+  for (int i = 0; i < 4; i++) {
+    memset(&heard[i], 0, sizeof heard[i]);
+    heard[i].is_text = i < 2 && !is_sorted, heard[i].cut = i % 2;
+    hear_source(&heard[i], count, words);
+    if (refused(heard[i].fault)) return;
+    if (strcmp(heard[i].words, heard[0].words)) {
+      printf("refused different answers:%s and%s\n", heard[0].words, heard[i].words);
+      return;
+    }
+  }
+  printf("ok%s\n", heard[0].words);
+}
+
 static void answer(int count, char **words) {
   uint8_t frame[SQUITTER_FRAME_BYTES];
   const char *asked = count ? words[0] : "";
-  if (count == 7 && !strcmp(asked, "encode")) encode(words + 1);
+  if (count > 6 && !strcmp(asked, "feed")) feed(count - 1, words + 1);
+  else if (count == 7 && !strcmp(asked, "encode")) encode(words + 1);
   else if (count == 4 && !strcmp(asked, "local")) local(words + 1);
   else if (count == 5 && (!strcmp(asked, "pair") || !strcmp(asked, "surface-pair"))) pair(words + 1);
   else if (count == 2 && !strcmp(asked, "nl")) zone_count(words[1]);
@@ -141,7 +287,8 @@ static void answer(int count, char **words) {
 }
 
 int main(void) {
-  char line[512], *words[WORDS];
+  static char line[LINE];
+  char *words[WORDS];
   printf("adapter exact libsquitter from C\n");
   while (fgets(line, sizeof line, stdin)) {
     int count = 0;

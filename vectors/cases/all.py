@@ -3,7 +3,8 @@ from __future__ import annotations
 
 from typing import Dict
 
-from cases import frame_cases, ground_cases, log_cases, near_cases, pair_cases, printed, worked, zone_cases
+from cases import feed_cases, feed_time_cases, frame_cases, ground_cases, log_cases, near_cases, pair_cases, printed
+from cases import worked, zone_cases
 from cases.case import OPERATIONS, Collection
 
 
@@ -21,6 +22,8 @@ def chosen() -> Dict[str, Collection]:
     pair_cases.add_pairs(found["pair"])
     ground_cases.add_surface_pairs(found["surface-pair"])
     log_cases.add_logs(found["log"])
+    feed_cases.add_feeds(found["feed"])
+    feed_time_cases.add_feed_times(found["feed"])
     worked.add_layout(found["fields"])
     worked.add_places(found["local"], found["pair"], found["surface-pair"])
     worked.add_logs(found["log"])

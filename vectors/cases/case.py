@@ -5,7 +5,7 @@ import hashlib
 from fractions import Fraction
 from typing import Any, Dict, List, Optional, Tuple
 
-from cases import frames, gillham, history
+from cases import feeds, frames, gillham, history
 from cases.definitions import (
     AIR,
     CODES,
@@ -24,7 +24,7 @@ from cases.definitions import (
     zone_count,
 )
 
-OPERATIONS = ("parity", "fields", "altitude", "nl", "encode", "local", "pair", "surface-pair", "log")
+OPERATIONS = ("parity", "fields", "altitude", "nl", "encode", "local", "pair", "surface-pair", "log", "feed")
 
 # Other decoders' choices, each with the profile whose answer is then 'by policy'.
 POLICIES = {
@@ -128,6 +128,10 @@ def answer_log(asked: Dict[str, Any], profile: Profile) -> Dict[str, Any]:
     return {"lines": history.answers(asked["lines"], settings)}
 
 
+def answer_feed(asked: Dict[str, Any], profile: Profile) -> Dict[str, Any]:
+    return feeds.answer(asked)
+
+
 ANSWERS = {
     "parity": answer_parity,
     "fields": answer_fields,
@@ -138,6 +142,7 @@ ANSWERS = {
     "pair": answer_pair,
     "surface-pair": answer_pair,
     "log": answer_log,
+    "feed": answer_feed,
 }
 
 
@@ -167,6 +172,10 @@ def policies_of(operation: str, asked: Dict[str, Any], expected: Dict[str, Any])
         found["unrounded-transitions"] = {"zones": zones.pop()}
     if operation == "altitude" and expected.get("form") == "raw":
         found.update(gillham.policies(asked["frame"]))
+    if operation == "feed":
+        own = feeds.answer({**asked, "leap": feeds.MOST, "late": feeds.MOST})
+        if own["lines"] != expected["lines"]:
+            found["own-times"] = {"lines": own["lines"], "counts": own["counts"]}
     if operation == "log" and any(line.get("heard") == "followed" for line in expected["lines"]):
         found["no-following"] = {"lines": unfollowed(asked)}
     return found

@@ -28,7 +28,7 @@ static int decode_near(const char *frame, const double *reference, double place[
 }
 
 int main(void) {
-  char line[512], *words[WORDS];
+  char line[4096], *words[WORDS]; /* (a question about a feed may have 3,000 bytes) */
   printf("adapter mine\n");
   while (fgets(line, sizeof line, stdin)) {
     double site[2], place[2];
