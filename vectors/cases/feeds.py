@@ -192,10 +192,15 @@ def items(form: str, data: bytes, is_lost: bool = False) -> Iterator[Item]:
 # ---- what the first bytes show
 
 
-def is_row_of(separator: bytes, row: bytes) -> bool:
-    """A row has this separator, and a cell with a frame or with the name of its column."""
+def is_row_of(separator: bytes, row: bytes, first: int = 0) -> bool:
+    """A row has this separator, and from this column on a cell with a frame or with the name of its column."""
     cells = [content(cell) for cell in row.split(separator)]
-    return len(cells) > 1 and any(cell.lower() == b"rawmsg" or has_mode_s(cell) for cell in cells)
+    return len(cells) > 1 and any(cell.lower() == b"rawmsg" or has_mode_s(cell) for cell in cells[first:])
+
+
+def is_framed(line: bytes) -> bool:
+    """A line has a frame, read as AVR text. That would read the last column of a table with semicolons."""
+    return not is_row_of(b";", line, 1) and any(len(item.frame) > MODE_AC for item in avr(line))
 
 
 def unread(row: bytes) -> str:
@@ -216,14 +221,14 @@ def unread(row: bytes) -> str:
     return ""
 
 
-def line_sign(line: bytes) -> str:
-    """Returns what a line shows: a format, another kind of source, or nothing."""
+def line_sign(line: bytes, is_second: bool) -> str:
+    """Returns what a line shows: a format, another kind of source, or nothing. Two lines with frames show AVR text."""
     row, plain = row_of(line), without_mark(line)
     if len(line) <= LONGEST and logged(row):
         return "log"
     if len(line) <= LONGEST and (tabled(row, FIRST_COLUMNS) or columns_of(row)):
         return "csv"
-    if not is_row_of(b";", line) and any(len(item.frame) > MODE_AC for item in avr(line)):
+    if is_framed(line) and (is_second or has_mode_s(row)):
         return "avr"
     return "sbs" if plain.startswith(SBS) else "json" if plain.startswith(b"{") else unread(plain)
 
@@ -249,23 +254,26 @@ def messages_in_a_row(data: bytes) -> Iterator[Tuple[int, int]]:
 
 def shown(data: bytes, is_ended: bool) -> Tuple[int, str]:
     """Returns the source that the first bytes show, and how many bytes show it. The name is empty if none do."""
-    seen, start, other = data[:LIMIT], 0, ""
+    seen, start, other, framed = data[:LIMIT], 0, "", False
     two = min((end for end, count in messages_in_a_row(seen) if count > 1), default=LIMIT + 2)
     for at in range(1, len(seen) + 1):
         byte, line = seen[at - 1 : at], seen[start : at - 1]
-        sign = line_sign(line) if byte == b"\n" else "" if start else start_sign(seen[:at])
+        sign = line_sign(line, framed) if byte == b"\n" else "" if start else start_sign(seen[:at])
         if byte == b";":
             mark, word = without_mark(line)[:1], without_mark(line)[1:]
             sign = "avr" if mark and mark in LEAD and word_item(at, mark, word).fate == "frame" else ""
-        start = at if byte == b"\n" else start
+        if byte == b"\n":
+            start, framed = at, framed or is_framed(line)
         if at == two or sign in FORMATS:
             return at, "beast" if at == two else sign
         other = other or sign
-    sign = line_sign(seen[start:])
+    sign = line_sign(seen[start:], True)
     if len(seen) < LIMIT and (not is_ended or not seen):
         return len(data) + 1, ""
     if sign not in FORMATS and len(seen) < LIMIT and [0, *(count for _, count in messages_in_a_row(seen))][-1]:
         sign = "beast"
+    elif sign not in FORMATS and framed:
+        sign = "avr"
     return min(LIMIT, len(data) + 1), sign if sign in FORMATS else other or sign or "no_frame"
 
 
@@ -381,7 +389,8 @@ class Times:
         a, b = self.run
         if self.is_torn or not self._follows(b, one):
             self.aside += 1
-            self._wait([a, one] if self._is_beside(a, one) else [b, one])
+            goes_on = self._is_beside(a, one) or self._follows(a, one) and not self._follows(b, one)
+            self._wait([a, one] if goes_on else [b, one])
             return iter(())
         if not self._is_beside(b, one):
             self._wait([one])

@@ -1,5 +1,5 @@
 -- Counting on a receiver's clock.
-use Rattle.std.specs.Prelude.{◌≡◌, ◌+◌, ◌-◌, ◌%◌, ◌^◌, ◌<◌, ◌≤◌, ◌||◌, ⊤, ℕ, Bool, true, false, List, [], ◌∷◌, map}
+use Rattle.std.specs.Prelude.{◌≡◌, ◌+◌, ◌-◌, ◌%◌, ◌^◌, ◌<◌, ◌≤◌, ⊤, ℕ, Bool, true, false, List, [], ◌∷◌, map}
 use Rattle.std.specs.Prelude.{min, nat_lt, if◌then◌else◌}
 
 -- The count runs at 12 MHz. A receiver sends its low 48 bits.
@@ -34,15 +34,10 @@ counted_at shown count = record { last = shown; elapsed = count; is_heard = true
 abbrev pub ahead_of : (last shown : ℕ) → ℕ
 ahead_of last shown = (shown + turn - last) % turn
 
--- The value counts forwards: it is less than half a turn ahead, or its count would be below 0 otherwise.
-abbrev pub is_forwards : Counted → ℕ → Bool
-is_forwards before shown = nat_lt (ahead_of before.last shown) (2 ^ 47)
-    || nat_lt (before.elapsed + ahead_of before.last shown) turn
-
--- The count of a 48-bit value: of the counts with these 48 bits that are not below 0, the one nearest to the latest.
+-- The count of a 48-bit value: the one nearest to the latest count, or 0 if that would be below 0.
 abbrev pub count_of : Counted → ℕ → ℕ
 count_of before shown =
-    if is_forwards before shown then min (before.elapsed + ahead_of before.last shown) most
+    if nat_lt (ahead_of before.last shown) (2 ^ 47) then min (before.elapsed + ahead_of before.last shown) most
     else before.elapsed + ahead_of before.last shown - turn
 
 -- the state after a value is believed

@@ -50,18 +50,18 @@ impl Clock {
         *is_heard
     }
 
-    /// Returns the count (ticks) of a value, by its low 48 bits: of the counts with these bits that are not below 0, the
-    /// one nearest to the latest count. A count above 2^64 - 1 is 2^64 - 1.
+    /// Returns the count (ticks) of a value, by its low 48 bits: of the counts with these bits, the one nearest to the
+    /// latest count. A count below 0 is 0, and one above 2^64 - 1 is 2^64 - 1.
     #[inline(always)]
     pub fn count(&self, ticks: u64) -> u64
         ensures { result ≡ count_of self.now (ticks % 2 ^ 48) }
     {
         let shown = ticks % TURN;
         let ahead = (shown + TURN - self.last) % TURN;
-        if ahead < TURN / 2 || self.elapsed < TURN - ahead {
+        if ahead < TURN / 2 {
             self.elapsed.saturating_add(ahead)
         } else {
-            self.elapsed - (TURN - ahead)
+            self.elapsed.saturating_sub(TURN - ahead)
         }
     }
 
