@@ -24,7 +24,7 @@ HERE = os.path.dirname(os.path.abspath(__file__))
 sys.path.insert(0, os.path.join(HERE, ".."))
 import test_feed  # noqa: E402
 from squitter import FeedFormat, _source, batch  # noqa: E402
-from test_feed import EVEN, FRAMES, LINES, MOMENTS, ODD, SOURCES  # noqa: E402
+from test_feed import ALL_CALL, EVEN, FRAMES, LINES, MOMENTS, ODD, SOURCE  # noqa: E402
 
 try:
     import pandas
@@ -35,6 +35,15 @@ ALL_AT_0 = "all frames of this file have the timestamp 0, as without times: old 
 NO_FRAME = ("no frame is in the first 16384 bytes: try format=beast, avr, csv or log"
             "; a table has the columns time (seconds), icao24 and rawmsg")
 NO_SQUITTER = "no extended squitter (DF17) is in it"
+# A source of each format, with the squitters of MOMENTS and FRAMES, a short frame, and one piece of damage.
+SOURCES = {
+    "beast": SOURCE,
+    "avr": f"*2040;\n@{6682 * 12_000:012X}{EVEN};<{84_000_000:012x}1a{ODD.lower()};\r\n*{ALL_CALL};*12;\n"
+    f"%{88_800_000:012X}{EVEN};\n@{88_800_001:012X}{ODD};".encode(),
+    "csv": (f'time,icao24,rawmsg\n6.682,x,{EVEN}\n7,,"{ODD}"\r\n7.1,,{ALL_CALL}\nx,,{EVEN}\n\n7.4,,{EVEN}\n'
+            f"7.4009,,{ODD}\n").encode(),
+    "log": f"6682 {EVEN}\n7000 *{ODD};\r\n7001 {ALL_CALL}\n7400 {EVEN}0\n7400 {EVEN.lower()}\n7400 {ODD}\n".encode(),
+}
 UNTIMED = {
     "avr": f"*{ODD};\r\n*{EVEN};\r\n".encode(),
     "beast": b"".join(test_feed.message(b"3", 0, frame) for frame in (ODD, EVEN, ODD)),

@@ -10,7 +10,7 @@ import { HINTS } from "../../web/squitter_layout.js";
 
 const {
   load, AirHead, AltitudeForm, Angle, Code, Contact, Fault, Feed, FeedFormat, GroundHead, Kind, Log, Order,
-  Stranger, Tracker, Unit, WINDOW, What,
+  Tracker, Unit, WINDOW, What,
 } = squitter;
 const MODULE = readFileSync(new URL("../../dist/squitter.wasm", import.meta.url)), library = await load(MODULE);
 const FRAME = "8D40621D58C382D690C8AC2863A7";
@@ -558,7 +558,7 @@ function asJson() {
   }
 }
 
-/** Tests a log in pieces of several types, each a view of a larger buffer. */
+/** Tests a log and a feed in pieces of several types, each a view of a larger buffer. */
 function piecesOfBytes() {
   const line = new TextEncoder().encode(`..5 ${FRAME}\n..`), wanted = "1 waiting 40621D\n";
   const at = line.byteOffset + 2, count = line.byteLength - 4;
@@ -566,6 +566,8 @@ function piecesOfBytes() {
   for (const kind of kinds) {
     const text = new Log(library).takeText(kind);
     if (text !== wanted) throw new Error(`a piece is answered ${text}`);
+    const feed = new Feed(library), lines = feed.takeText(kind) + feed.finishText();
+    if (lines !== `5 ${FRAME}\n` || feed.counts.written !== 1n) throw new Error(`a piece is read as ${lines}`);
   }
 }
 
@@ -579,7 +581,7 @@ function piecesOfText() {
   if (texts.join("") !== wanted || log.take(`9 ${EVEN}\n\n9`).whats.length !== 1) throw new Error(texts.join(""));
 }
 
-const EVEN = FRAME, ODD = "8D40621D58C386435CC412692AD6", ALL_CALL = "5D4840D6F83D31";
+const EVEN = FRAME, ODD = "8D40621D58C386435CC412692AD6";
 const hexadecimalBytes = (text) => Uint8Array.from(text.match(/../g), (digits) => parseInt(digits, 16));
 
 /** Returns a Beast message: each 1A after its type is doubled. */
@@ -594,46 +596,12 @@ function together(parts) {
   return all;
 }
 
-/** Returns a source of each format, with the four squitters of LINES, a short frame, and one piece of damage. */
 const text = (words) => new TextEncoder().encode(words);
-const SOURCES = {
-  BEAST: together([text("x"), beastMessage("3", 80_184_005, EVEN), beastMessage("2", 2, ALL_CALL),
-    beastMessage("3", 84_000_000, ODD), beastMessage("3", 88_800_000, EVEN), beastMessage("3", 88_800_001, ODD)]),
-  AVR: text(`@${hexadecimal(80_184_005, 12)}${EVEN};<${hexadecimal(84_000_000, 12)}1a${ODD};\r\n*${ALL_CALL};*12;
-%${hexadecimal(88_800_000, 12)}${EVEN};@${hexadecimal(88_800_001, 12)}${ODD};`),
-  CSV: text(`6.682,x,${EVEN}\nRAWMSG,time\n"${ODD}",7\r\n${ALL_CALL},7.1\n${EVEN},x\n${EVEN},7.4\n${ODD},7.4009\n`),
-  LOG: text(`6682 ${EVEN}\n7000 *${ODD};\r\n7001 ${ALL_CALL}\n\n7400 ${EVEN}0\n7400 ${EVEN}\n7400 ${ODD}\n`),
-};
-const LINES = `6682 ${EVEN}\n7000 ${ODD}\n7400 ${EVEN}\n7400 ${ODD}\n`;
 
 /** Returns the lines that a feed writes for squitters. */
 function linesOf({ moments, frames }) {
   const frame = (at) => library.frameText(frames.slice(14 * at, 14 * at + 14));
   return [...moments].map((at, index) => `${at} ${frame(index)}\n`).join("");
-}
-
-/** Tests the format that the first bytes of a source show, and sources without frames. */
-function formatsOfSources() {
-  for (const [name, source] of Object.entries(SOURCES)) {
-    const feed = new Feed(library);
-    if (feed.format !== null) throw new Error("a feed without a byte has a format");
-    feed.take(source);
-    if (feed.format !== FeedFormat[name] || feed.stranger !== null) throw new Error(`${name} is ${feed.format}`);
-    feed.close();
-  }
-  const strangers = {
-    SBS: "MSG,3,1\n", JSON: "{}\n", PACKED: "BZh9", NO_FRAME: "2040\n", SEMICOLONS: "rawmsg;time\n",
-    TABS: "rawmsg\ttime\n", NO_TIME: "rawmsg,icao24\n", NO_RAWMSG: "time,icao24\n", NO_SECONDS: `5 s,,${EVEN}\n`,
-    NO_NAMES: `5,${EVEN}\n`,
-  };
-  for (const [name, source] of Object.entries(strangers)) {
-    const feed = new Feed(library, { format: FeedFormat.AUTO });
-    feed.take(text(source));
-    if (feed.stranger !== null) throw new Error(`${name} is known before its end`);
-    feed.finish();
-    if (feed.stranger !== Stranger[name] || feed.format !== null) throw new Error(`${name} is ${feed.stranger}`);
-    feed.close();
-  }
 }
 
 /** Tests the unit of timestamps: seventeen of one aircraft show it, and sixteen do not. */
@@ -648,32 +616,6 @@ function unitsOfTimestamps() {
   for (const [moments, clocked, name] of cases) {
     const unit = library.unitOf(moments, moments.map(() => 0x40621d), clocked);
     if (unit !== Unit[name]) throw new Error(`${moments.join()} is ${unit}, not ${name}`);
-  }
-}
-
-/** Tests a source of each format: squitters, as arrays and as text, and counts do not depend on the cut. */
-function feedsInPieces() {
-  for (const [name, source] of Object.entries(SOURCES)) {
-    for (const size of [1, 2, 7, 22, source.length]) {
-      const format = FeedFormat[name], one = new Feed(library, { format }), other = new Feed(library);
-      let lines = "", texts = "";
-      for (let at = 0; at < source.length; at += size) {
-        lines += linesOf(one.take(source.subarray(at, at + size)));
-        const count = Math.min(size, source.length - at);
-        texts += other.takeText(new DataView(source.buffer, source.byteOffset + at, count));
-      }
-      lines += linesOf(one.finish());
-      texts += other.finishText();
-      if (lines !== LINES || texts !== LINES) throw new Error(`${name} by ${size}: ${lines} ${texts}`);
-      for (const feed of [one, other]) {
-        const { found, written, modeAc, multilaterated, receiverIds, damaged, aside, formats } = feed.counts;
-        const told = [found, written, modeAc, multilaterated, receiverIds, damaged, aside, formats.length, formats[11],
-          feed.counts.breaks, feed.counts.ahead];
-        const counts = told.join(" ");
-        if (counts !== "6 4 0 0 0 1 0 25 1 0 0") throw new Error(`${name}: counts ${counts}`);
-        feed.close();
-      }
-    }
   }
 }
 
@@ -698,60 +640,6 @@ function largeFeeds() {
   const short = `${EVEN}\n`, feed = new Feed(library, { format: FeedFormat.AVR });
   if (feed.take(text(short.repeat(20_000))).moments.length !== 20_000) throw new Error("short lines");
   feed.close();
-}
-
-/** Tests arrivals of a live source, the end of a text, and a lost connection. */
-function liveFeeds() {
-  const live = new Feed(library, { format: FeedFormat.AVR, live: true });
-  const dead = new Feed(library, { format: FeedFormat.BEAST, leap: 500 });
-  const told = [live.takeText(text(`*${EVEN};${ODD}`), 1_700_000_000_000), live.finishText(1_700_000_000_500n)];
-  if (told.join("") !== `1700000000000 ${EVEN}\n1700000000500 ${ODD}\n`) throw new Error(`arrivals ${told}`);
-  const last = [live.takeText(text(EVEN), 1_700_000_000_600), linesOf(live.finish(1_700_000_000_700))];
-  if (last.join("") !== `1700000000700 ${EVEN}\n` || live.finish().moments.length) throw new Error(`ends ${last}`);
-  const one = beastMessage("3", 12_000_000, EVEN), first = dead.takeText(together([one, one.subarray(0, 9)]));
-  dead.disconnected();
-  const next = first + dead.takeText(one);
-  if (next !== `1000 ${EVEN}\n1501 ${EVEN}\n` || dead.counts.damaged !== 1n) throw new Error(`connections ${next}`);
-  const back = new Feed(library, { format: FeedFormat.LOG });
-  back.takeText(text([9000, 9001, 1, 2, 3].map((at) => `${at} ${EVEN}\n`).join("")));
-  if (back.counts.breaks !== 1n || back.counts.written !== 5n) throw new Error("times that go back");
-  const ahead = new Feed(library, { format: FeedFormat.BEAST, live: true, leap: 1000 });
-  ahead.takeText(together([500, 1000, 1501].map((at) => beastMessage("3", 12_000 * at, EVEN))), 77);
-  if (ahead.counts.ahead !== 1n) throw new Error("a clock that runs ahead of the arrivals");
-  const recorded = new Feed(library, { format: FeedFormat.AVR });
-  if (recorded.takeText(text(`*${EVEN};`), 5) !== `0 ${EVEN}\n`) throw new Error("an arrival of a recorded source");
-  for (const feed of [live, dead, back, ahead, recorded]) feed.close();
-}
-
-/** Tests each setting of a feed beside its default: late rows, other downlink formats, and an ignored clock. */
-function feedSettings() {
-  const answers = (settings, source, arrival) => {
-    const feed = new Feed(library, settings), lines = feed.takeText(text(source), arrival) + feed.finishText(arrival);
-    feed.close();
-    return lines;
-  };
-  const clocked = `@0000005B8D80${EVEN};`, other = "*5D4840D6F83D31;", row = (at) => `5000 ${EVEN}\n${at} ${ODD}\n`;
-  for (const [wanted, settings, source] of [
-    [`500 ${EVEN}\n`, { format: FeedFormat.AVR }, clocked],
-    [`77 ${EVEN}\n`, { format: FeedFormat.AVR, live: true }, clocked],
-    [`0 ${EVEN}\n`, { format: FeedFormat.AVR, byArrival: true }, clocked],
-    ["", { format: FeedFormat.AVR }, other],
-    ["0 5D4840D6F83D31\n", { format: FeedFormat.AVR, allFormats: true }, other],
-    [row(5000), { format: FeedFormat.LOG }, row(4999)],
-    [row(4999), { format: FeedFormat.LOG, late: 1 }, row(4999)],
-    [row(3000), { format: FeedFormat.LOG, late: 2000n }, row(3000)],
-    [`5000 ${EVEN}\n`, { format: FeedFormat.LOG, late: 2000n }, row(2999)],
-  ]) {
-    const got = answers(settings, source, 77);
-    if (got !== wanted) throw new Error(`a feed of ${Object.keys(settings)}: ${got}`);
-  }
-  const ignoring = new Feed(library, { format: FeedFormat.AVR, live: true, byArrival: true });
-  const told = ignoring.takeText(text(clocked), 77) + ignoring.takeText(text(clocked), 78);
-  if (told !== `77 ${EVEN}\n78 ${EVEN}\n`) throw new Error(`an ignored clock: ${told}`);
-  const short = new Feed(library, { format: FeedFormat.AVR, allFormats: true }), { frames } = short.take(text(other));
-  const shown = [...frames].map((byte) => hexadecimal(byte, 2)).join("");
-  if (shown !== `5D4840D6F83D31${"0".repeat(14)}`) throw new Error(`a short frame: ${shown}`);
-  for (const feed of [ignoring, short]) feed.close();
 }
 
 /** Returns frames that begin with these numbers. */
@@ -835,12 +723,8 @@ async function refusals() {
   copiesOfSettings();
   piecesOfBytes();
   piecesOfText();
-  formatsOfSources();
   unitsOfTimestamps();
-  feedsInPieces();
   largeFeeds();
-  liveFeeds();
-  feedSettings();
   orders();
   const bytes = library.frame(FRAME), copy = contact.copy();
   const kinds = [bytes, bytes.buffer, new DataView(bytes.buffer), new Uint8ClampedArray(bytes)];
