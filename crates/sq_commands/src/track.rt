@@ -18,7 +18,7 @@ ghost use Rattle.sq_track.specs.Held.{settings};
 use crate::answers::{HeardSquitter, heard_header, refuse_text, tell_found};
 use crate::arguments::{ArgumentFault, TrackOptions, read_options};
 use crate::check::end_of;
-use crate::formats::{AnswerFormat, CsvRows, Format, Numbered, in_format};
+use crate::formats::{AnswerFormat, Format, Numbered, in_format};
 use crate::replies::{Reply, refuse_argument};
 use crate::requests::TrackWords;
 use sq_devices::{Sink, Source};

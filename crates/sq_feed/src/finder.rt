@@ -196,7 +196,7 @@ impl Finder {
         ensures text { self.new.text ≡ record self.old.text {
           line = if byte == 10 then [] else self.old.text.line;
           is_framed = self.old.text.is_framed
-            || (byte == 10) && is_framed_line (take (length self.old.text.line - 1) self.old.text.line);
+              || (byte == 10) && is_framed_line (take (length self.old.text.line - 1) self.old.text.line);
           stranger = remembered self.old.text.stranger sign;
         } }
         ensures count { self.new.text.count ≡ length self.new.held }

@@ -7,8 +7,8 @@ ghost use Rattle.squitter_c.specs.Slots.{held_feed};
 
 use crate::faults::{Fault, NONE, Reason};
 use crate::feed_slot::FeedSlot;
-use crate::log_loop::Done;
 use crate::forms::put_at;
+use crate::log_loop::Done;
 use sq_feed::{Feed, LINE_LIMIT, TextBuffer, Timed, push_log_line};
 
 // The size of the buffer for several lines.

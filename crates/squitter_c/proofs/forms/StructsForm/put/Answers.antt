@@ -1,4 +1,4 @@
-use Rattle.std.proofs.Common.{◌≡◌, ◌++◌, ◌∷◌, ◌≤◌, ◌<◌, [], arith, refl, subst, sym, take}
+use Rattle.std.proofs.Common.{◌++◌, ◌∷◌, [], arith, refl, subst, sym, take}
 use Rattle.std.proofs.lemmas.List.{take_more_set}
 use Rattle.squitter_c.specs.LogCalls.{AsAnswers}
 use Rattle.squitter_c.proofs.LogSteps.{all_with, dropped_further}

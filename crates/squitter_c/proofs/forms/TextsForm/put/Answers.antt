@@ -1,7 +1,6 @@
-use Rattle.std.proofs.Common.{◌≡◌, ◌+◌, ◌++◌, ◌∷◌, ◌∙◌, ℕ, [], ap, arith, drop, length, subst, sym, take}
+use Rattle.std.proofs.Common.{◌≡◌, ◌+◌, ◌++◌, ◌∙◌, ap, arith, length, sym, take}
 use Rattle.sq_commands.specs.Heard.{heard_telling}
 use Rattle.sq_log.specs.Runs.{told_text}
-use Rattle.squitter_c.specs.LogCalls.{AsTexts}
 use Rattle.squitter_c.proofs.LogSteps.{told_more}
 use Rattle.squitter_c.proofs.forms.TextsForm.put.Goals as goal
 
