@@ -642,7 +642,8 @@ function largeFeeds() {
   // After the first call, one byte too few is left for the longest line.
   const long = `2345678901234567890 ${EVEN}\n`, lines = long.slice(1).repeat(26) + long.repeat(1312);
   const near = new Feed(library, { format: FeedFormat.LOG, leap: 2n ** 64n - 1n });
-  if (lines.length !== LINES_ROOM || near.takeText(text(lines)) !== lines) throw new Error("lines that end near the room");
+  const isWhole = lines.length === LINES_ROOM && near.takeText(text(lines)) === lines;
+  if (!isWhole) throw new Error("lines that end near the room");
   near.close();
   const short = `${EVEN}\n`, feed = new Feed(library, { format: FeedFormat.AVR });
   if (feed.take(text(short.repeat(20_000))).moments.length !== 20_000) throw new Error("short lines");
