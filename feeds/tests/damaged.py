@@ -39,8 +39,6 @@ def number(word: str) -> int:
 
 # ---- what is heard
 
-SETTINGS = {"leap": int, "late": int, "by_arrival": bool, "all_formats": bool}
-
 
 def of_script(asked: Dict[str, Any]) -> Optional[Dict[str, Any]]:
     """Returns a feed as squitter-feed hears it: a last line has the arrival of its piece, and frames that are held when

@@ -16,6 +16,12 @@ const MODULE = readFileSync(new URL("../../dist/squitter.wasm", import.meta.url)
 const FRAME = "8D40621D58C382D690C8AC2863A7";
 const hexadecimal = (number, digits) => number.toString(16).toUpperCase().padStart(digits, "0");
 
+// What one call of the library gives at most (web/squitter_*.js): squitters, bytes of lines, answers and their columns;
+// and the squitters that an order first has room for.
+const AT_ONCE = 1024, LINES_ROOM = 1 << 16, ANSWERS_AT_ONCE = 4096, COLUMN_ROOM = 1 << 15, FIRST_ROOM = 4096;
+/** Returns a number with those just below and just above it. */
+const about = (number) => [number - 1, number, number + 1];
+
 /** The words that a call comes to, or those of its fault, without the hint. */
 function answered(call) {
   try {
@@ -447,7 +453,7 @@ function defaultWindows() {
 
 /** Tests a piece with more results than the columns hold at once, and with nearly as many. */
 function manyAnswers() {
-  for (const count of [0, 1, 4095, 4096, 4097, 32767, 32768, 32769, 100_000]) {
+  for (const count of [0, 1, ...about(ANSWERS_AT_ONCE), ...about(COLUMN_ROOM), 100_000]) {
     const log = new Log(library), piece = new TextEncoder().encode("x\n".repeat(count));
     const { numbers, codes, addresses, lats, lons, feet } = log.take(piece);
     if (numbers.length !== count || codes.length !== count) throw new Error(`${numbers.length} answers of ${count}`);
@@ -621,8 +627,9 @@ function unitsOfTimestamps() {
 
 /** Tests pieces and outputs that are larger than one call of the library handles. */
 function largeFeeds() {
-  for (const count of [1, 1023, 1024, 1025, 2048, 2113, 2114, 2115, 9000]) {
-    const line = `7 ${EVEN}\n`, feed = new Feed(library, { format: FeedFormat.LOG });
+  const line = `7 ${EVEN}\n`, linesAtOnce = Math.floor(LINES_ROOM / line.length);
+  for (const count of [1, ...about(AT_ONCE), 2 * AT_ONCE, ...about(linesAtOnce), 9000]) {
+    const feed = new Feed(library, { format: FeedFormat.LOG });
     if (feed.takeText(text(line.repeat(2))) !== line.repeat(2)) throw new Error("the first two lines"); // (one waits)
     const { moments, frames } = feed.take(text(line.repeat(count))), given = feed.takeText(text(line.repeat(count)));
     const good = moments.length === count && frames.length === 14 * count && moments.every((at) => at === 7n);
@@ -635,7 +642,8 @@ function largeFeeds() {
   // After the first call, one byte too few is left for the longest line.
   const long = `2345678901234567890 ${EVEN}\n`, lines = long.slice(1).repeat(26) + long.repeat(1312);
   const near = new Feed(library, { format: FeedFormat.LOG, leap: 2n ** 64n - 1n });
-  if (lines.length !== 65_536 || near.takeText(text(lines)) !== lines) throw new Error("lines that end near the room");
+  const isWhole = lines.length === LINES_ROOM && near.takeText(text(lines)) === lines;
+  if (!isWhole) throw new Error("lines that end near the room");
   near.close();
   const short = `${EVEN}\n`, feed = new Feed(library, { format: FeedFormat.AVR });
   if (feed.take(text(short.repeat(20_000))).moments.length !== 20_000) throw new Error("short lines");
@@ -679,7 +687,7 @@ function orders() {
   }
   const { memory } = library;
   if (memory.bytesAt(memory.zerosAt, 64).some(Boolean)) throw new Error("a closed order has written");
-  for (const count of [1, 1023, 1024, 1025, 2048, 4096, 4097, 5462, 5463, 9000, 40_000]) {
+  for (const count of [1, ...about(AT_ONCE), 2 * AT_ONCE, ...about(FIRST_ROOM), 5462, 5463, 9000, 40_000]) {
     const full = new Order(library, 2n ** 64n - 1n), numbers = Array.from({ length: count }, (_, at) => at);
     const moments = numbers.map((at) => (at ^ 1) + 7);
     const sorted = [...numbers].sort((one, other) => (one ^ 1) - (other ^ 1));

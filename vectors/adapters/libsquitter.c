@@ -190,8 +190,13 @@ static void hear(hearing *to, const char *piece, size_t length, uint64_t arrival
 
 static void tell_source(hearing *to) {
   static const char *const names[] = {
-    "beast", "avr", "csv", "log", "-", "sbs", "tar", "packed", "utf16", "json", "no_frame", "semicolons", "tabs",
-    "no_time", "no_rawmsg", "no_seconds", "no_names"};
+    [SQUITTER_FEED_BEAST] = "beast", [SQUITTER_FEED_AVR] = "avr", [SQUITTER_FEED_CSV] = "csv",
+    [SQUITTER_FEED_LOG] = "log", [SQUITTER_FEED_AUTO] = "-", [SQUITTER_FEED_SBS] = "sbs",
+    [SQUITTER_FEED_TAR] = "tar", [SQUITTER_FEED_PACKED] = "packed", [SQUITTER_FEED_UTF16] = "utf16",
+    [SQUITTER_FEED_JSON] = "json", [SQUITTER_FEED_NO_FRAME] = "no_frame",
+    [SQUITTER_FEED_SEMICOLONS] = "semicolons", [SQUITTER_FEED_TABS] = "tabs", [SQUITTER_FEED_NO_TIME] = "no_time",
+    [SQUITTER_FEED_NO_RAWMSG] = "no_rawmsg", [SQUITTER_FEED_NO_SECONDS] = "no_seconds",
+    [SQUITTER_FEED_NO_NAMES] = "no_names"};
   uint32_t number = 0;
   if (!to->fault.code) to->fault = squitter_feed_format(&to->feed, &number);
   tell(to, " =%.0" PRIu64 "%s", 0, names[number]);
@@ -236,7 +241,9 @@ static void hear_call(hearing *to, const char *call) {
 
 /* feed FORMAT LEAP LATE REORDER FLAGS CALL .., with pieces of `cut` bytes. */
 static void hear_source(hearing *to, int count, char **words) {
-  static const char *const names[] = {"beast", "avr", "csv", "log"};
+  static const char *const names[] = {
+    [SQUITTER_FEED_BEAST] = "beast", [SQUITTER_FEED_AVR] = "avr", [SQUITTER_FEED_CSV] = "csv",
+    [SQUITTER_FEED_LOG] = "log"};
   squitter_block block = {squitter_feed_size(), malloc(squitter_feed_size())};
   squitter_block of_order = {squitter_order_size(HELD), malloc(squitter_order_size(HELD))};
   uint32_t format = SQUITTER_FEED_AUTO, flags = (strchr(words[4], 'l') ? SQUITTER_FEED_LIVE : 0)

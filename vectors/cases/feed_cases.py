@@ -292,6 +292,21 @@ def add_shown_late(cases: Cases) -> None:
     ):
         counts = {**counts, **({"damaged": 1, "mode_ac": 1} if form == "avr" else {})}
         cases.add("shown", flags, garbage + data, lines, counts, shows=[form, None], note="behind garbage")
+    add_short(cases)
+    for data in (b"2040\n", b"*20G0;\n", b"x*2040;\n", b"*;", b"7 x\n", b"7,,x\n", b"time,raw\n", b"\x1a9", b"\x1a\x1a",
+                 b"7,,%s;\n" % E.encode()):
+        cases.add("shown", flags, [data, OPEN], [], shows=[None], note="no format is shown yet")
+    for last, form, lines in ((log(7)[:-1], "log", ["7 E"]), (row("7")[:-1], "csv", ["7000 E"]),
+                              (E.encode(), "avr", ["0 E"]),
+                              (b"x" + BEAST, "beast", ["1000 E"])):
+        cases.add("shown", flags, last, lines, {"damaged": int(form == "beast")},
+                  note="the end of a source shows its format")
+
+
+def add_short(cases: Cases) -> None:
+    """Short sources: a start of a message shows Beast; behind other bytes, a message at the end of the source does."""
+    flags = "FormatShown"
+    status, receiver = b"\x1a4" + bytes(range(1, 22)), b"\x1a\xe3" + bytes(range(8))
     for data, lines, counts in (
         (BEAST + message(O, 1)[:-1], ["1000 E"], {"damaged": 1}), (b"\x1a3x", [], {"damaged": 1}), (status, [], {}),
         (receiver, [], {"receiver_ids": 1}), (BEAST + b"x" + BEAST, ["1000 E"] * 2, {"damaged": 1}),
@@ -307,14 +322,6 @@ def add_shown_late(cases: Cases) -> None:
                  b"\x1a1" + bytes(8)):
         cases.add("short", flags, b"x" + data, [], {"damaged": 1}, shows=[None, "no_frame"],
                   note="damage begins the count of messages anew")
-    for data in (b"2040\n", b"*20G0;\n", b"x*2040;\n", b"*;", b"7 x\n", b"7,,x\n", b"time,raw\n", b"\x1a9", b"\x1a\x1a",
-                 b"7,,%s;\n" % E.encode()):
-        cases.add("shown", flags, [data, OPEN], [], shows=[None], note="no format is shown yet")
-    for last, form, lines in ((log(7)[:-1], "log", ["7 E"]), (row("7")[:-1], "csv", ["7000 E"]),
-                              (E.encode(), "avr", ["0 E"]),
-                              (b"x" + BEAST, "beast", ["1000 E"])):
-        cases.add("shown", flags, last, lines, {"damaged": int(form == "beast")},
-                  note="the end of a source shows its format")
 
 
 def add_text_before(cases: Cases) -> None:

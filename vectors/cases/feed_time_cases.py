@@ -382,6 +382,12 @@ def add_lost(cases: Cases) -> None:
                               ([far, far + 1], [far, far + 1], {})):
         cases.add("lost", flags, [*ticking([5000, *run]), LOST, (b"", 0)], times([5000, *told]), counts,
                   [1, *[0] * len(run), 0, len(told), 0], format="avr")
+    add_lost_clocks(cases)
+
+
+def add_lost_clocks(cases: Cases) -> None:
+    """After a lost connection a live clock goes on by the arrival, or beyond the leap if it was ahead."""
+    flags = "LostConnection"
     for arrival in (NOW + 100, NOW - 100):
         cases.add("lost", flags, [(clocks(1000), NOW), LOST, (clocks(5), arrival)], times([NOW, max(arrival, NOW)]),
                   live=True)
