@@ -80,8 +80,8 @@ impl<F: AnswerFormat, A: Allocator> Telling for Hearing<'_, F, A> {
     }
 }
 
-/// Returns the job of `track` by a tracker. The format is a type, so that each format has a loop of its own, with the step
-/// inlined.
+/// Returns the job of `track` by a tracker. The format is a type, so that each format has a loop of its own, with the
+/// step inlined.
 pub fn hear_as<'a, F: AnswerFormat, A: Allocator>(
     tracker: &'a mut Tracker<A>,
     format: &'a F,

@@ -287,7 +287,8 @@ unfolding line_sign
 avr_line_sign is_framed line is =
     ap (λ (s : Sign). first_shown s (first_shown (sign_of_row (row_read csv_start line))
     (first_shown (text_sign is_framed line) (other_sign (without_mark line))))) is.no_log
-    ∙ ap (λ (s : Sign). first_shown s (first_shown (text_sign is_framed line) (other_sign (without_mark line)))) is.no_row
+    ∙ ap (λ (s : Sign). first_shown s (first_shown (text_sign is_framed line) (other_sign (without_mark line))))
+    is.no_row
     ∙ ap (λ (b : Bool). first_shown (if b && (is_framed || is_bare_line line) then Shows Avr else Unclear)
     (other_sign (without_mark line))) (framed_line line is)
 
@@ -350,7 +351,8 @@ pub avr_line_is_shown : AvrLineIsShown
 unfolding line_sign
 avr_line_is_shown line is =
     first_is_shown line is [] (λ s.
-    ap₂ (λ n (text : Lines). last_sign n text) (no_message (line ++ 10 ∷ []) (plain_line line is)) (after_first line is s)
+    ap₂ (λ n (text : Lines). last_sign n text) (no_message (line ++ 10 ∷ []) (plain_line line is))
+    (after_first line is s)
     ∙ ap (λ (t : Bool). if t then Unclear else Shows Avr)
     (ne_eqb (length (line ++ 10 ∷ []) + 0) 0 (λ e. absurd (omega (arith, e, length-append line (10 ∷ []))))))
 

@@ -2,10 +2,10 @@
 --
 -- A start of a Beast message in the first two bytes shows Beast. Otherwise the bytes are read as Beast and as lines of
 -- text at the same time: two Beast messages in a row show Beast, and the first line that can be read shows a text. A
--- log is tried first, then a table. Two lines that are none of these, but have a frame if they are read as AVR text, show
--- AVR text: the frame may have a carriage return, spaces or any other text before it. One such line does, if it is a frame
--- alone, or if no byte shows another format. A marked frame at the start of a line shows AVR text at its semicolon. All
--- bytes of the source are then read in that format, from the first one on.
+-- log is tried first, then a table. Two lines that are none of these, but have a frame if they are read as AVR text,
+-- show AVR text: the frame may have a carriage return, spaces or any other text before it. One such line does, if it
+-- is a frame alone, or if no byte shows another format. A marked frame at the start of a line shows AVR text at its
+-- semicolon. All bytes of the source are then read in that format, from the first one on.
 --
 -- Archives, other kinds of text and tables that are not read are remembered, and named only if nothing shows a format
 -- within the first 16,384 bytes, or up to the end of a shorter source: no sign of another kind outweighs a frame. All
@@ -107,8 +107,8 @@ abbrev pub has_frame : List Found → Bool
 has_frame [] = false
 has_frame (item ∷ more) = is_framed item || has_frame more
 
--- A line that has a frame anywhere, if it is read as AVR text. A row with semicolons between its columns and a frame behind
--- the first one is none: AVR text would read its last column, without its time.
+-- A line that has a frame anywhere, if it is read as AVR text. A row with semicolons between its columns and a frame
+-- behind the first one is none: AVR text would read its last column, without its time.
 abbrev pub is_framed_line : List ℕ → Bool
 is_framed_line line = not (is_row_behind 59 line) && has_frame (avr_found line)
 

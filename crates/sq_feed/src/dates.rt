@@ -212,8 +212,8 @@ impl Dates {
         self.wait(run, 1)
     }
 
-    // Returns whether a time goes on from the first of two frames: it is near the first, or it follows the first and not
-    // the second.
+    // Returns whether a time goes on from the first of two frames: it is near the first, or it follows the first and
+    // not the second.
     fn goes_on_from(&self, times: &Times, a: &Timed, b: &Timed, moment: u64) -> bool
         ensures { result ≡ goes_on_from times.now self.now a.now b.now moment }
     {

@@ -151,8 +151,8 @@ pub fn rows_in_times()
     ensures late { row_times (5000 ∷ 6000 ∷ 5000 ∷ 4999 ∷ 7000 ∷ []) ≡ 5000 ∷ 6000 ∷ 6000 ∷ 7000 ∷ [] }
 {}
 
-/// The timestamps of frames with a clock. These wait and are confirmed as rows are, but the first frame does not wait. In
-/// a live source, the first timestamp is the arrival, and a clock that starts again goes on by the arrival.
+/// The timestamps of frames with a clock. These wait and are confirmed as rows are, but the first frame does not wait.
+/// In a live source, the first timestamp is the arrival, and a clock that starts again goes on by the arrival.
 pub fn clocks_in_times()
     ensures wild { clock_times (1000 ∷ 3601000 ∷ 1100 ∷ 1200 ∷ []) ≡ 1000 ∷ 1100 ∷ 1200 ∷ [] }
     ensures first { clock_times (90000000 ∷ 1000 ∷ 2000 ∷ 3000 ∷ [])

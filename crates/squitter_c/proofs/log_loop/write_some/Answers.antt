@@ -34,7 +34,8 @@ returns-in-Fed-clause-end g c =
 pub loop-out-smaller-in-Passed : goal.loop-out-smaller-in-Passed
 loop-out-smaller-in-Passed g c =
     let step = c.in-Passed.ensures in
-    smaller c.loop-out.invariant.going c.step.new.self step.number step.lasting c.in-Passed.count step.within step.progress
+    smaller c.loop-out.invariant.going c.step.new.self step.number step.lasting c.in-Passed.count step.within
+    step.progress
 
 pub loop-out-preserved-in-Passed : goal.loop-out-preserved-in-Passed
 loop-out-preserved-in-Passed g c =
@@ -50,7 +51,8 @@ loop-out-preserved-in-Passed g c =
 pub loop-out-smaller : goal.loop-out-smaller
 loop-out-smaller g c =
     let step = c.in-Answered.ensures in
-    smaller c.loop-out.invariant.going c.step.new.self step.number step.lasting c.in-Answered.count step.within step.progress
+    smaller c.loop-out.invariant.going c.step.new.self step.number step.lasting c.in-Answered.count step.within
+    step.progress
 
 pub loop-out-preserved : goal.loop-out-preserved
 loop-out-preserved g c =
@@ -63,7 +65,8 @@ loop-out-preserved g c =
     let out = c.put-written.new.out in
     let place = c.put-written.result in
     let told = subst (λ form. (told : List (Told HeardSquitter)) → g.F.Form.As form told (take l.written l.out)
-    → g.F.Form.As form (told ++ c.in-Answered.answer ∷ []) (take place out)) l.invariant.form c.put-written.ensures.put in
+    → g.F.Form.As form (told ++ c.in-Answered.answer ∷ []) (take place out)) l.invariant.form
+    c.put-written.ensures.put in
     record {
       going = goes_on l.invariant.going new step.number step.lasting out count place step.within
           (on_answered As l.log new rest count c.in-Answered.answer (take l.written l.out) (take place out) step.stepped
@@ -83,7 +86,8 @@ overflow_sub-out g c = c.loop-out.invariant.going.on.written.1
 pub returns-in-NoMemory-clause-goes_on : goal.returns-in-NoMemory-clause-goes_on
 returns-in-NoMemory-clause-goes_on g c =
     let step = c.in-NoMemory.ensures in
-    runs_out c.loop-out.invariant.going c.step.new.self step.number step.lasting c.in-NoMemory.count step.stepped step.within
+    runs_out c.loop-out.invariant.going c.step.new.self step.number step.lasting c.in-NoMemory.count step.stepped
+    step.within
 
 pub returns-clause-goes_on : goal.returns-clause-goes_on
 returns-clause-goes_on g c = c.loop-out.invariant.going.on

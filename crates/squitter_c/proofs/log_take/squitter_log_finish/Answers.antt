@@ -11,6 +11,6 @@ returns-in-Some c =
     (sym (ap (option_map (λ b. b.value)) c.in-Some.is) ∙ c.take.ensures.taken) (
       told.new.listener,
       search rules,
-      subst (λ old. IsFinishedBy AsAnswers 1 old told.new.listener c.args.out.now told.new.out c.args.done.now told.new.done
-          told.result) c.deref_mut.ensures.value told.ensures,
+      subst (λ old. IsFinishedBy AsAnswers 1 old told.new.listener c.args.out.now told.new.out c.args.done.now
+          told.new.done told.result) c.deref_mut.ensures.value told.ensures,
     )
