@@ -1,6 +1,7 @@
 # make            builds the program: from dist/ with a C compiler, or, where a source is not as dist/ has it, by rt, which proves it first
 # make prove      proves and builds it from nothing, with rt of the Rattle toolchain
 # make check      tries all that can be tried here, a line for each part, and the sum last
+# make check-platforms  tries dist/squitter.c on other processors and systems, by qemu-user and wine, where these are there
 # make dist       makes dist/ of what rt proves, and what the page of web/ takes from it
 # make install    puts the program with its page and completions below DESTDIR and PREFIX; PROGRAM= names another file to install
 # make uninstall  takes them away
@@ -20,7 +21,7 @@ dist/out/$(PROCESSOR)/squitter: dist/squitter-$(PROCESSOR).s dist/os.c
 	mkdir -p $(@D)
 	$(CC) $(CPPFLAGS) $(or $(CFLAGS),-O2) $(LDFLAGS) -Wl,--gc-sections,-z,relro,-z,now -o $@ dist/squitter-$(PROCESSOR).s dist/os.c
 
-.PHONY: all prove check dist install uninstall
+.PHONY: all prove check check-platforms dist install uninstall
 all:
 	@test -x "$(PROGRAM)"
 
@@ -30,6 +31,9 @@ prove:
 
 check:
 	@tests/check
+
+check-platforms:
+	@tests/platforms
 
 dist:
 	dist/make

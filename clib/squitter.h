@@ -53,6 +53,19 @@ extern "C" {
 #define SQUITTER_PURE
 #endif
 
+/* Structs have the same layout everywhere, but for squitter_block and squitter_done: 64-bit numbers are aligned to 8
+ * bytes, also on i386, and the second member of a tracker has 8 bytes, also where a pointer has 4. */
+#if defined __GNUC__ && defined __i386__
+#define SQUITTER_ALIGNED __attribute__((aligned(8)))
+#else
+#define SQUITTER_ALIGNED
+#endif
+#if UINTPTR_MAX > 0xffffffffu
+typedef void *squitter_at;
+#else
+typedef uint64_t squitter_at;
+#endif
+
 /* The version of this header: 65536 * major + 256 * minor + patch. squitter_version() returns the library's. */
 #define SQUITTER_VERSION 256
 
@@ -116,7 +129,7 @@ enum {
 /* num / den degrees. A valid angle has a den from 1 to 10^12 and a magnitude of at most 360 degrees. Calls write angles
  * in lowest terms, with 0 as 0/1, except in the fix of an entry and in a squitter_answer. */
 typedef struct squitter_angle {
-  int64_t num;
+  SQUITTER_ALIGNED int64_t num;
   uint64_t den;
 } squitter_angle;
 
@@ -203,7 +216,7 @@ typedef struct squitter_zones {
  * stored in a file; numbers have the machine's byte order. All bytes of an absent frame or fix are 0. A frame that is
  * not a squitter counts as absent, and so does a position that is out of range. */
 typedef struct squitter_received { /* a frame, and its timestamp */
-  uint64_t moment;
+  SQUITTER_ALIGNED uint64_t moment;
   uint8_t frame[14];
 } squitter_received;
 
@@ -247,7 +260,8 @@ typedef struct squitter_heard {
   uint8_t even, odd;          /* of SPLIT; else 0 */
 } squitter_heard;
 
-/* Memory that the caller provides: `memory` points to `size` bytes, aligned to 16 bytes as malloc aligns them. */
+/* Memory that the caller provides: `memory` points to `size` bytes, aligned as malloc aligns them: to 16 bytes on 64-bit
+ * processors, to 8 on 32-bit ones. On these a call that returns a size returns SIZE_MAX for one that does not fit. */
 typedef struct squitter_block {
   size_t size;
   void *memory;
@@ -258,19 +272,19 @@ typedef struct squitter_block {
  * these 16 bytes or to the block, or use a copy of them. */
 typedef struct squitter_tracker {
   uint64_t full;
-  void *at;
+  squitter_at at;
 } squitter_tracker;
 
 /* An address that is present in a tracker, and the timestamp of its newest position. */
 typedef struct squitter_present {
-  uint64_t moment;
+  SQUITTER_ALIGNED uint64_t moment;
   uint32_t address;
 } squitter_present;
 
 /* A log that is passed in pieces and decoded as by `squitter track`. The rules for squitter_tracker apply. */
 typedef struct squitter_log {
   uint64_t full;
-  void *at;
+  squitter_at at;
 } squitter_log;
 
 /* The result for a line of a log. For a refused line, all but `number` and `fault` is 0. */
@@ -300,13 +314,13 @@ typedef struct squitter_tally {
 /* A feed finds the squitters in a receiver's bytes, with their timestamps. The rules for squitter_tracker apply. */
 typedef struct squitter_feed {
   uint64_t full;
-  void *at;
+  squitter_at at;
 } squitter_feed;
 
 /* An order sorts squitters by timestamp. The rules for squitter_tracker apply. */
 typedef struct squitter_order {
   uint64_t full;
-  void *at;
+  squitter_at at;
 } squitter_order;
 
 /* Counts of the items of a source. `found` is the sum of the other counts of items; at 2^64 - 1 all of these stop. A
@@ -768,16 +782,18 @@ SQUITTER_SIZE(squitter_entry, 192);
 SQUITTER_SIZE(squitter_last, 16);
 SQUITTER_SIZE(squitter_heard, 40);
 SQUITTER_SIZE(squitter_degrees_e7, 8);
-SQUITTER_SIZE(squitter_block, 16);
 SQUITTER_SIZE(squitter_tracker, 16);
 SQUITTER_SIZE(squitter_present, 16);
 SQUITTER_SIZE(squitter_log, 16);
 SQUITTER_SIZE(squitter_answer, 96);
-SQUITTER_SIZE(squitter_done, 16);
 SQUITTER_SIZE(squitter_tally, 16);
 SQUITTER_SIZE(squitter_feed, 16);
 SQUITTER_SIZE(squitter_order, 16);
 SQUITTER_SIZE(squitter_counts, 272);
+#if UINTPTR_MAX > 0xffffffffu
+SQUITTER_SIZE(squitter_block, 16);
+SQUITTER_SIZE(squitter_done, 16);
+#endif
 
 #ifdef __cplusplus
 }

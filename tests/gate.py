@@ -15,10 +15,10 @@ touch "$HOME/left"
 sed -n 's:^NAME|\\(.*[^~]\\)~*$:\\1:p' SAYS | grep . || echo '1 passed, 0 failed'
 ! grep -q '^NAME|.*~$' SAYS
 """
-SCRIPTS = ("dist/os-test dist/os-same dist/check dist/witnesses tests/launcher tests/module tests/layout tests/run "
-           "tests/feeds tests/page tests/bench tests/aarch64 tests/packages tests/planted.py tests/wrong-bodies "
-           "tests/stamps hostile/run hostile/faces hostile/growths vectors/check bench/instructions bench/peers "
-           "clib/made").split()
+SCRIPTS = ("dist/os-test dist/os-same dist/check dist/witnesses tests/launcher tests/module tests/portable "
+           "tests/platforms tests/layout tests/run tests/feeds tests/page tests/bench tests/aarch64 tests/packages "
+           "tests/planted.py tests/wrong-bodies tests/stamps hostile/run hostile/faces hostile/growths vectors/check "
+           "bench/instructions bench/peers clib/made").split()
 MAKEFILE = "all:\ncheck check-own:\n\t@./made\n"
 # The parts that call rt. All others run as a user has them.
 BY_RT = set("layout fits proofs dist os_same own_compiler wrong_bodies witnesses growths".split())

@@ -32,13 +32,17 @@ static int same_place(const squitter_position *one, const squitter_position *oth
   return same_angle(one->lat, other->lat) && same_angle(one->lon, other->lon);
 }
 
-/* Outputs are filled with this byte before a call; after a fault each byte must be unchanged. */
-enum { UNTOUCHED = 9 };
-static void filled(void *at, size_t size) { memset(at, UNTOUCHED, size); }
+/* Outputs are filled before a call; after a fault each byte must be unchanged. Neighbours differ, so that bytes which
+ * change places show too. */
+static uint8_t untouched(const uint8_t *at) { return (uint8_t)(9 + (uintptr_t)at % 16); }
+static void filled(void *at, size_t size) {
+  uint8_t *bytes = at;
+  for (size_t i = 0; i < size; i++) bytes[i] = untouched(bytes + i);
+}
 static int is_filled(const void *at, size_t size) {
   const uint8_t *bytes = at;
   for (size_t i = 0; i < size; i++)
-    if (bytes[i] != UNTOUCHED) return 0;
+    if (bytes[i] != untouched(bytes + i)) return 0;
   return 1;
 }
 
@@ -341,7 +345,8 @@ static void try_saving(void) {
 
 /* Tests the calls of a feed; tests/feed.c tests them with each format, in pieces and in other blocks. */
 static void try_a_feed(void) {
-  _Alignas(16) static unsigned char feed_memory[20480];
+  /* (where malloc aligns to 8 bytes, a block has as many more) */
+  _Alignas(16) static unsigned char feed_memory[20480 + (sizeof(void *) < 8 ? 8 : 0)];
   static const squitter_block feed_block = {sizeof feed_memory, feed_memory};
   static const char log[] = "400 8D40621D58C382D690C8AC2863A7";
   squitter_feed feed = {0, 0};
@@ -403,10 +408,11 @@ static void try_an_order(void) {
   squitter_order_free(&order);
 }
 
-/* Sixteen gaps of a second in a log of seconds show it, and fifteen do not. */
+/* Sixteen gaps of a second in a log of seconds show it, and fifteen do not. The address beyond the end counts for
+ * nothing. */
 static void try_units(void) {
   uint64_t moments[17];
-  uint32_t addresses[17];
+  uint32_t addresses[18] = {[17] = 0xABCDEF};
   for (int at = 0; at < 17; at++) moments[at] = 1795965328 + (uint64_t)at, addresses[at] = 0x40621D;
   IS(squitter_unit_of(moments, 17, addresses, 17, 0) == SQUITTER_UNIT_SECONDS);
   IS(squitter_unit_of(moments, 16, addresses, 17, 0) == SQUITTER_UNIT_MILLISECONDS);

@@ -92,7 +92,7 @@ class OfTheHeader(unittest.TestCase):
             sign, name = ("i", "Int") if kind.startswith("int") else ("u", "Uint")
             view = f"Big{name}64" if number.size == 8 else f"{name}{8 * number.size}"
             self.assertEqual((number.numpy[0], number.view), (sign, view), kind)
-            if kind not in ("void *", "size_t"):
+            if kind not in ("void *", "size_t", "squitter_at"):
                 self.assertEqual(number.ctypes, f"c_{kind[:-2]}")
 
     def test_calls(self) -> None:
