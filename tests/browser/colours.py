@@ -4,7 +4,7 @@ from typing import Any, Dict, Iterator, List, Tuple
 
 from chromium import Chromium
 from trying import Tries, expect
-from using import clicked, heard, silent, typed
+from using import clicked, heard, typed
 
 # Returns [what, selector, colour, background, least, contrast] for each text and each outline that is shown. The
 # contrast is that of WCAG 2.1, from 1 to 21. Large text has 24 px, or 18.66 px in bold type. Radio buttons, sliders,
@@ -127,7 +127,6 @@ def seen_contrast(tries: Tries) -> str:
     expect(not failing, *sorted(set(failing)))
     wanted = {"text", "value", "placeholder", "::before", "border", "focus", "tab", "edge", "mark"}
     expect(kinds == wanted, "compared:", json.dumps(sorted(kinds)))
-    silent(browser)
     return f"{count} colours"
 
 

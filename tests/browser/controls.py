@@ -4,7 +4,7 @@ import math
 
 from chromium import Chromium
 from trying import Tries, expect
-from using import clicked, given_log, heard, pressed, shown, silent, typed
+from using import clicked, given_log, heard, pressed, shown, typed
 from values import Rows, compared
 
 # The map of the panel with tracks of its own, in equal degrees, 100 points for a degree around 0 degrees.
@@ -72,17 +72,14 @@ MAP_ROWS: Rows = (
     ("(map.took = 1e9, look(), map.moved = false, map.follow(), map.center.x)", 0),
     # a finger moves the map, and two zoom it; a click chooses
     ("(look(), pointer('pointerdown', 1, 100, 50), pointer('pointermove', 1, 130, 40), pointer('pointerup', 1, 130, "
-     "40), "
-     "pointer('pointermove', 1, 200, 200), [map.center.x, map.center.y, map.chosen])", [-0.3, -0.1, None]),
+     "40), pointer('pointermove', 1, 200, 200), [map.center.x, map.center.y, map.chosen])", [-0.3, -0.1, None]),
     ("(look(), pointer('pointerdown', 1, 100, 50), pointer('pointermove', 1, 130, 40), pointer('pointermove', 1, 140, "
-     "40), "
-     "pointer('pointerup', 1, 140, 40), [map.center.x, map.center.y])", [-0.4, -0.1]),
+     "40), pointer('pointerup', 1, 140, 40), [map.center.x, map.center.y])", [-0.4, -0.1]),
     ("(look(), pointer('pointerdown', 1, width / 2 - 50, 80), pointer('pointerdown', 2, width / 2 + 50, 80), "
      "pointer('pointermove', 2, width / 2 + 150, 80), pointer('pointermove', 1, width / 2 - 50, 80), "
      "pointer('pointerup', 1, 0, 0), pointer('pointerup', 2, 0, 0), map.scale)", 200),
     ("(look(), pointer('pointerdown', 1, 10, 10), pointer('pointercancel', 1, 10, 10), pointer('pointermove', 1, 20, "
-     "20), "
-     "map.center.x)", 0),
+     "20), map.center.x)", 0),
     *((f"(look(), (({{ x, y }}) => {{ pointer('pointerdown', 1, x, y); pointer('pointerup', 1, x + {right}, y); }})("
        "map.spot({ lon: 1, lat: 0.5 })), map.chosen?.line ?? null)", wanted)
       for right, wanted in ((3, 1), (4.1, None))),
@@ -94,9 +91,8 @@ MAP_ROWS: Rows = (
        "cancelable: true })), map.scale)", wanted) for delta, wanted in (
            (400, 100 / math.e), (-400, 100 * math.e))),
     ("(look(), map.canvas.dispatchEvent(new WheelEvent('wheel', { deltaY: -800, clientX: "
-     "map.canvas.getBoundingClientRect()"
-     ".left + width / 2 + 100, clientY: map.canvas.getBoundingClientRect().top + height / 2, cancelable: true })), "
-     "[map.center.x > 0.8, Math.abs(map.center.y) < 0.01])", [True, True]),
+     "map.canvas.getBoundingClientRect().left + width / 2 + 100, clientY: map.canvas.getBoundingClientRect().top + "
+     "height / 2, cancelable: true })), [map.center.x > 0.8, Math.abs(map.center.y) < 0.01])", [True, True]),
     ("(look(), map.view({ x: 30, y: 10 }))",
      "{ left: -(width / 2 + 30) / 100, right: (width / 2 + 30) / 100, low: -(height / 2 + 10) / 100, "
      "high: (height / 2 + 10) / 100 }"),
@@ -139,24 +135,18 @@ def map_moved(tries: Tries) -> str:
                               "map.draw(); found.push(map.canvas.width / map.canvas.clientWidth); } return found })()")
     expect(ratios == [2, 1], "pixels for a point:", ratios)
     said = browser.evaluate("(() => { const { map } = squitterLog, { say } = map.told, found = []; map.told.say = "
-                            "(text) "
-                            "=> found.push(text); map.say('a'); map.say('a'); map.say('b'); map.told.say = say; return "
-                            "found })()")
+                            "(text) => found.push(text); map.say('a'); map.say('a'); map.say('b'); map.told.say = say; "
+                            "return found })()")
     expect(said == ["a", "b"], "the map says", said)
     browser.look(1100, 900, False)
     red = browser.evaluate("(() => { const { map } = squitterLog, { width, height } = map.canvas, copy = Object.assign("
                            "document.createElement('canvas'), { width, height }).getContext('2d', { "
-                           "willReadFrequently: "
-                           "true }), pen = map.canvas.getContext('2d'); map.scale = 3000; pen.fillStyle = '#f00'; "
-                           "pen.fillRect(0, 0, width, height); map.draw(); copy.drawImage(map.canvas, 0, 0); const { "
-                           "data } "
-                           "= copy.getImageData(0, 0, width, height); let count = 0; for (let at = 0; at < "
-                           "data.length; "
-                           "at += 4) count += data[at] === 255 && data[at + 1] === 0 && data[at + 3] === 255; return "
-                           "count "
-                           "})()")
+                           "willReadFrequently: true }), pen = map.canvas.getContext('2d'); map.scale = 3000; "
+                           "pen.fillStyle = '#f00'; pen.fillRect(0, 0, width, height); map.draw(); "
+                           "copy.drawImage(map.canvas, 0, 0); const { data } = copy.getImageData(0, 0, width, height); "
+                           "let count = 0; for (let at = 0; at < data.length; at += 4) count += data[at] === 255 && "
+                           "data[at + 1] === 0 && data[at + 3] === 255; return count })()")
     expect(red == 0, red, "points of the drawing before are left")
-    silent(browser)
     return f"{len(MAP_ROWS)} values"
 
 
@@ -189,8 +179,7 @@ PLAY_ROWS: Rows = (
     ("(byId('play-speed').value = '10', playback.play(), playback.before = 100, playback.tick(110), playback.moment)",
      1100),
     ("(playback.play(), playback.before = 100, playback.tick(1000), [...shown().slice(0, 3), button(), "
-     "playback.playing, "
-     "asked.length])", [5000, None, "1000", "Play", False, 1]),
+     "playback.playing, asked.length])", [5000, None, "1000", "Play", False, 1]),
     ("(playback.play(), playback.pause(), playback.before = 100, playback.tick(110), [playback.moment, asked.length])",
      [1000, 1]),
     ("(playback.play(), slid('500'), [playback.playing, button()])", [False, "Play"]),
@@ -205,8 +194,7 @@ PLAY_ROWS: Rows = (
      "dated.addPlace(1, 0, 0, first + 1500, 1, 1); playback.take(dated, new LogClock(BigInt(first))); return "
      "shown().slice(2, 4) })()", ["1000", "2023-11-14 22:13:21 UTC"]),
     ("(() => { let count = 0; const { redraw } = map; map.redraw = () => count++; playback.go(3000); delete "
-     "map.redraw; "
-     "return count })()", 1),
+     "map.redraw; return count })()", 1),
 )
 
 
@@ -214,7 +202,6 @@ def replayed(tries: Tries) -> str:
     """What a replay shows at each moment, by the slider, by the clock and at its ends."""
     browser = tries.page("log")
     count = compared(browser, PLAY_ROWS, PLAYED)
-    silent(browser)
     return f"{count} values"
 
 
@@ -244,10 +231,9 @@ SPOT_ROWS: Rows = (
     ("(map.zoom(20), map.zoom(180), [circle(), map.middle])", [[220, 90], {"lon": 0, "lat": 0}]),
     # the land is that of the view
     ("(() => { const whole = land(); map.zoom(20); const near = land(); map.show({ lon: 60, lat: 9 }); const other = "
-     "land();"
-     "map.show({ lon: 60, lat: 40 }); const north = land(); map.show({ lon: 61, lat: 41 }); return [whole === near, "
-     "near === "
-     "other, other === north, north === land(), near.length > 0] })()", [False, False, False, True, True]),
+     "land();map.show({ lon: 60, lat: 40 }); const north = land(); map.show({ lon: 61, lat: 41 }); return [whole === "
+     "near, near === other, other === north, north === land(), near.length > 0] "
+     "})()", [False, False, False, True, True]),
     ("(() => { map.zoom(20); const near = land(); map.zoom(10); return near === land() })()", False),
     # a step of the keys is a degree on the whole Earth and ten with Shift; nearer it is as many parts of the view
     *((f"key({words})", [[lat, lon], True]) for words, lat, lon in (
@@ -281,9 +267,7 @@ def spot_moved(tries: Tries) -> str:
                      "field.dispatchEvent(new Event('change')) })()")
     pressed_at = browser.evaluate("(() => { const map = document.querySelector('#send-map .spot'); map.dispatchEvent("
                                   "new KeyboardEvent('keydown', { key: 'ArrowUp', shiftKey: true })); return ['lat', "
-                                  "'lon']"
-                                  ".map((name) => document.getElementById(`send-${name}`).value) })()")
-    silent(browser)
+                                  "'lon'].map((name) => document.getElementById(`send-${name}`).value) })()")
     expect(pressed_at == ["12.5555556", "-20.2500000"], pressed_at)
     return f"{count} values"
 
@@ -304,8 +288,7 @@ SETTING_ROWS: Rows = (
     ("[set('1', '1', '52', ''), set('1', '1', '', '4'), set('1', '1', 'x', '4')].map((text) => text.split(' ')[0])",
      ["longitude", "latitude", "latitude"]),
     ("[set('1', '1', '90', '180'), set('1', '1', '90.1', '0'), set('1', '1', '0', '180.1')].map((one) => one.length > "
-     "3 ? "
-     "'refused' : one[2])", ["90.0000000 180.0000000", "refused", "refused"]),
+     "3 ? 'refused' : one[2])", ["90.0000000 180.0000000", "refused", "refused"]),
 )
 
 SUMMARY = """const told = (answers, feed) => { Object.assign(squitterLog, { name: "a.log", seconds: 1.25,
@@ -352,7 +335,6 @@ def log_words(tries: Tries) -> str:
     addresses(browser)
     while_decoding(browser)
     left_alone(browser, tries)
-    silent(browser)
     return f"{count} values"
 
 
@@ -398,8 +380,7 @@ def filters(browser: Chromium) -> None:
         expect(left == wanted, what, "shows", left, "and not", wanted)
     typed(browser, filter_what="")
     of_one = browser.evaluate("squitterLog.answers.chunks.flatMap(({ addresses, whats }) => "
-                              "[...addresses].filter((one, at) "
-                              "=> whats[at] && one === 0x484004)).length")
+                              "[...addresses].filter((one, at) => whats[at] && one === 0x484004)).length")
     for text, wanted in (("484004", of_one), (" 484004 ", of_one), ("48400", 0), ("x", 0), ("", sum(counts))):
         typed(browser, filter_address=text)
         left = browser.evaluate("squitterLog.answers.left.length")
@@ -485,24 +466,19 @@ def left_alone(browser: Chromium, tries: Tries) -> None:
     browser.wait("document.getElementById('log-state').textContent.includes('not saved')", 10)
     expect("(unpack it first" in shown(browser, "#log-state"), shown(browser, "#log-state"))
     drops = browser.evaluate("['dragover', 'drop', 'dragleave'].map((name) => { const dataTransfer = new "
-                             "DataTransfer(); "
-                             "dataTransfer.setData('text/plain', 'x'); const event = new DragEvent(name, { "
-                             "dataTransfer, "
-                             "bubbles: true, cancelable: true }); byId('log-paste').dispatchEvent(event); "
-                             "return event.defaultPrevented })")
+                             "DataTransfer(); dataTransfer.setData('text/plain', 'x'); const event = new "
+                             "DragEvent(name, { dataTransfer, bubbles: true, cancelable: true }); "
+                             "byId('log-paste').dispatchEvent(event); return event.defaultPrevented })")
     expect(drops == [False] * 3, "a text that is dropped is", drops)
-    over = browser.evaluate("['dragover', 'dragleave', 'dragover', 'drop'].map((name) => { const dataTransfer = "
-                            "new DataTransfer(); dataTransfer.items.add(new File(['1 x'], 'one.log')); byId('tab-send')"
+    over = browser.evaluate("['dragover', 'dragleave', 'dragover', 'drop'].map((name) => { const dataTransfer = new "
+                            "DataTransfer(); dataTransfer.items.add(new File(['1 x'], 'one.log')); byId('tab-send')"
                             ".dispatchEvent(new DragEvent(name, { dataTransfer, bubbles: true, cancelable: true })); "
-                            "return "
-                            "byId('log-drop').classList.contains('over') })")
+                            "return byId('log-drop').classList.contains('over') })")
     expect(over == [True, False, True, False], "the place to drop a file is marked:", over)
     clicked(browser, "#tab-send")
     browser.evaluate("(() => { const dataTransfer = new DataTransfer(); dataTransfer.items.add(new File(['1 x'], "
-                     "'two.log'));"
-                     "document.body.dispatchEvent(new DragEvent('drop', { dataTransfer, bubbles: true, cancelable: "
-                     "true }))"
-                     "})()")
+                     "'two.log'));document.body.dispatchEvent(new DragEvent('drop', { dataTransfer, bubbles: true, "
+                     "cancelable: true }))})()")
     heard(browser)
     expect(browser.evaluate("squitterLog.name === 'two.log' && !byId('panel-log').hidden"), "a file dropped elsewhere")
     browser.evaluate("(() => { const dataTransfer = new DataTransfer(); for (const name of ['a', 'b', 'c']) "
@@ -534,8 +510,7 @@ HELPERS: Rows = (
     ("refusal('Refused', new Error('x')).outerHTML", '<p class="refusal"><strong>Refused: </strong>x</p>'),
     ("((one) => `${one.lat} ${one.lon}`)(positionOf(squitterLog.library, ' 1 ', ' -2 '))", "1.0000000 -2.0000000"),
     ("[['x', '1'], ['1', 'x']].map((words) => { try { positionOf(squitterLog.library, ...words) } catch (error) { "
-     "return "
-     "error.message.split(' ')[0] } })", ["latitude", "longitude"]),
+     "return error.message.split(' ')[0] } })", ["latitude", "longitude"]),
     ("moduleBytes() === moduleBytes()", True),
     ("['frame', 'place', 'send'].map((name) => byId(`${name}-answer`).children.length > 0)", [True] * 3),
     ("byId('version').textContent === squitterLog.library.version() && byId('version').textContent.length > 4", True),
@@ -574,16 +549,12 @@ def tabs(tries: Tries) -> str:
     clicked(browser, "#tab-place")
     expect(browser.evaluate("document.activeElement === document.body"), "a click moves the focus")
     submitted = browser.evaluate("['frame-form', 'place-form', 'send-form', 'log-form', 'filter-form'].map((id) => { "
-                                 "const "
-                                 "event = new Event('submit', { cancelable: true }); byId(id).dispatchEvent(event); "
-                                 "return "
-                                 "event.defaultPrevented })")
+                                 "const event = new Event('submit', { cancelable: true }); "
+                                 "byId(id).dispatchEvent(event); return event.defaultPrevented })")
     expect(submitted == [True] * 5, "forms are submitted:", submitted)
     resized = browser.evaluate("(() => { let count = 0; addEventListener('resize', () => count++); "
-                               "byId('tab-log').click();"
-                               "return count })()")
+                               "byId('tab-log').click();return count })()")
     expect(resized == 1, "the map of a tab that opens is not measured")
     browser = tries.page("elsewhere")
     is_open(0, "an address that names no tab")
-    silent(browser)
     return f"{count} texts"

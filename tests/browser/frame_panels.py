@@ -5,7 +5,7 @@ import subprocess
 
 from chromium import Chromium
 from trying import AIR_EVEN, AIR_ODD, Tries, cases, expect
-from using import clicked, pressed, shown, silent, typed
+from using import clicked, pressed, shown, typed
 
 
 def frames(tries: Tries) -> str:
@@ -45,7 +45,6 @@ def frames(tries: Tries) -> str:
     clicked(browser, "[data-frame]")
     answer = shown(browser, "#frame-answer")
     expect("38000 feet" in answer and "93000" in answer and "40621D" in answer, answer)
-    silent(browser)
     return f"{len(good)} frames, {len(rows)} faults"
 
 
@@ -71,7 +70,6 @@ def places(tries: Tries) -> str:
         answer = answer_beside_program(tries, *row)
     expect("Step by step" in answer, answer)
     pictures = pictures_of_zones(browser)
-    silent(browser)
     return f"{len(rows)} places, {pictures} pictures"
 
 
@@ -131,7 +129,6 @@ def sent(tries: Tries) -> str:
     for bad in ({"send_lat": "91"}, {"send_lat": "x"}, {"send_address": "4062"}):
         typed(browser, **{"send_lat": "1", "send_lon": "1", "send_address": "40621D", **bad})
         expect("Refused" in shown(browser, "#send-answer"), bad, shown(browser, "#send-answer"))
-    silent(browser)
     return f"{count} frames"
 
 

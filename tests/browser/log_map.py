@@ -6,7 +6,7 @@ from typing import List, Tuple
 from chromium import Chromium
 from logs import flights, tracked
 from trying import SITE, Tries, expect
-from using import clicked, heard, silent
+from using import clicked, heard
 
 # Places, off the lines of the grid, and whether they are on land: inside countries, in seas, and in a sea within the
 # land.
@@ -85,7 +85,6 @@ def land(tries: Tries) -> str:
         expect(browser.evaluate(f"{PIXEL}({lon}, {lat})") not in ("land", "sea", "outside"), "sea beyond the map of",
                view)
     pictures = pictured_land(browser)
-    silent(browser)
     return f"{count} places, {pictures} pictures"
 
 
@@ -220,7 +219,6 @@ def labels(tries: Tries) -> str:
         browser.evaluate(f"squitterLog.map.select({address}); squitterLog.map.draw()")
         first = browser.evaluate(LABELS)[0][0]
         expect(first == f"{address:06X}", "the first label is", first)
-    silent(browser)
     return f"{count} labels"
 
 
@@ -261,7 +259,6 @@ def selected(tries: Tries) -> str:
     wide += [browser.evaluate(f"squitterLog.map.draw(), {LINE_WIDE}(0x3C0005)") for _ in range(2)]
     expect(wide[0] == wide[1] and wide[2] == wide[3] > wide[0], "the mark is", wide, "points wide")
     expect(browser.evaluate("document.getElementById('map-address').value") == "3C0005", "the field stays")
-    silent(browser)
     return "an example on a desktop and on a phone"
 
 
@@ -342,7 +339,6 @@ def drawn_tracks(tries: Tries) -> str:
         middle, side = colored(1, lon, -1, [(0, 0), (4, 0)])
         expect(middle != is_silent, "the middle of a mark at", until, "is", middle)
         expect(side or not is_silent, "the border of a hollow mark is not drawn")
-    silent(browser)
     return "four aircraft"
 
 
@@ -378,7 +374,6 @@ def saved_rows(tries: Tries) -> str:
         "const before = top(); box.scrollTop = 300; return [before, top(), box.scrollTop, box.clientHeight] })()"
     )
     expect(abs(tops[0] - tops[1]) < 2 and tops[2] == 300 and tops[3] < 500, "the header moves:", tops)
-    silent(browser)
     return f"{count} rows"
 
 
@@ -433,5 +428,4 @@ def times(tries: Tries) -> str:
         unit = " UTC" if later > 10_000 else ""
         expect([title, cell, output] == [titles, first, end + unit], later, title, cell, output)
         expect(f", {last}{unit}, " in spot and ", 7525 ft, " in spot, spot)
-    silent(browser)
     return f"{len(CLOCKS)} moments, 3 logs"

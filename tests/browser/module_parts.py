@@ -7,7 +7,6 @@ from typing import List
 
 from logs import logs, tracked
 from trying import HERE, NARROW, SITE, TOP, WIDE, Tries, bytes_of, cases, expect, first_difference, read_text
-from using import silent
 
 
 def of_module(tries: Tries, *words: str, given: bytes = b"") -> bytes:
@@ -218,5 +217,4 @@ def vectors_in_browser(tries: Tries) -> str:
     )
     for case, answer in zip(asked, got):
         expect(answer == case["answer"], case["id"], answer, case["answer"])
-    silent(browser)
     return f"{len(asked)} cases"

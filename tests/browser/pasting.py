@@ -6,7 +6,7 @@ from typing import Any, Dict
 from chromium import Chromium
 from logs import USUAL, flights, tracked
 from trying import AIR_EVEN, AIR_ODD, Tries, expect, first_difference
-from using import clicked, heard, shown, silent, typed
+from using import clicked, heard, shown, typed
 
 PERMISSIONS = ["clipboardReadWrite", "clipboardSanitizedWrite"]
 
@@ -65,7 +65,6 @@ def pasted(tries: Tries) -> str:
     browser.wait("squitterLog.name === 'pasted text'")
     got = heard(browser)
     expect(got == tracked(tries.program, f"1 {AIR_EVEN}\n500 {AIR_ODD}".encode(), USUAL) and b" fix " in got, got)
-    silent(browser)
     return f"{len(texts)} formats, text without times, and typed text"
 
 
@@ -123,7 +122,6 @@ def pasted_over(tries: Tries) -> str:
         f"const event = new ClipboardEvent('paste', {{ clipboardData, cancelable: true, bubbles: true }});"
         f"return [{field}.dispatchEvent(event), {field}.value.length]; }})()")
     expect(got == [True, 40], got)
-    silent(browser)
     return f"6000 lines over 6000 in {after:.0f} ms, at first in {before:.0f} ms"
 
 
@@ -160,7 +158,6 @@ def copied(tries: Tries) -> str:
     tops = browser.evaluate("[...document.querySelectorAll('#send-answer .card')].map((one) => "
                             "one.getBoundingClientRect().top)")
     expect(frames[0] != frames[1] and tops[0] == tops[1], "the frames are not side by side:", frames, tops)
-    silent(browser)
     return "two frames in three ways"
 
 
@@ -220,14 +217,11 @@ def phone(tries: Tries) -> str:
         tops = browser.evaluate("[...document.querySelectorAll('[role=tab]')].map((one) => "
                                 "[one.getBoundingClientRect().top, one.getBoundingClientRect().height])")
         expect(len({top for top, _ in tops}) == 1 and max(high for _, high in tops) < 60, "tabs at", tops)
-    silent(browser)
     return f"{count} states"
 
 
-FORMS = (
-    ("pair", "Older frame", "Newer frame", "Latitude of your receiver"),
-    ("local", None, "Frame", "Latitude of the reference"),
-)
+FORMS = (("pair", "Older frame", "Newer frame", "Latitude of your receiver"),
+         ("local", None, "Frame", "Latitude of the reference"))
 
 
 def place_form(tries: Tries) -> str:
@@ -250,7 +244,6 @@ def place_form(tries: Tries) -> str:
     typed(browser, place_older="8C4841753AAB238733C8CD4020B1", place_newer="8C4841753A8A35323FAEBDAC702D")
     said = shown(browser, "#place-answer")
     expect("no site" in said and "Type the position of your receiver." in said, said)
-    silent(browser)
     return f"{len(FORMS)} modes"
 
 
@@ -289,5 +282,4 @@ def picture_labels(tries: Tries) -> str:
         near = browser.evaluate("[...document.querySelectorAll('#send-near text:not(.way-label)')].map((one) => "
                                 "one.textContent)")
         expect(near == ["even", "odd"], lat, lon, "has the labels", near)
-    silent(browser)
     return f"{count} labels"

@@ -4,7 +4,7 @@ from typing import Any, List
 
 from chromium import Chromium
 from trying import AIR_EVEN, Tries, expect
-from using import clicked, heard, pressed, shown, silent, typed
+from using import clicked, heard, pressed, shown, typed
 
 # Keeps what the state of the log says, and whether it is read aloud.
 STATES = """{
@@ -52,7 +52,6 @@ def read_aloud(tries: Tries) -> str:
         browser.wait(f"document.querySelector('{copy}').textContent === {json.dumps(text)}")
         expect(accessible(browser, copy)[1] == f"{text} {more}", accessible(browser, copy))
         browser.wait(f"document.querySelector('{copy}').textContent === 'Copy'")
-    silent(browser)
     return f"{len(rows) + 3} answers, {log_aloud(tries)} states of a log"
 
 
@@ -81,5 +80,4 @@ def log_aloud(tries: Tries) -> int:
     # Each output is a status by itself, and the moment of a replay changes with each picture.
     others = browser.evaluate("[...document.querySelectorAll('output')].map((one) => one.ariaLive)")
     expect(others == ["off"], "outputs that are read aloud:", others)
-    silent(browser)
     return len(counts) + 2

@@ -71,9 +71,7 @@ class Tries:
     @property
     def wide_node(self) -> List[str]:
         """node, with the flag that it may want for the 64-bit memory of dist/squitter64.wasm."""
-        module = (
-            f"WebAssembly.compile(require('fs').readFileSync('{TOP}/dist/{WIDE}')).catch(() => process.exit(3))"
-        )
+        module = (f"WebAssembly.compile(require('fs').readFileSync('{TOP}/dist/{WIDE}')).catch(() => process.exit(3))")
         for words in (self.node, [*self.node, "--experimental-wasm-memory64"]):
             if subprocess.run([*words, "-e", module], capture_output=True).returncode == 0:
                 return words
@@ -87,6 +85,13 @@ class Tries:
             self.open = chromium.Chromium()
             self.open.call("Browser.setDownloadBehavior", behavior="allow", downloadPath=self.work)
         return self.open
+
+    def silent(self) -> None:
+        """Fails if the console of the browser has said something since the last call."""
+        if self.open:
+            self.open.evaluate("new Promise((done) => setTimeout(done, 50))")
+            problems, self.open.problems = self.open.problems, []
+            expect(not problems, "the console says", problems)
 
     def page(self, panel: str = "frame", address: str = INDEX) -> chromium.Chromium:
         """The page, opened anew on a panel."""

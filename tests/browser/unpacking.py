@@ -11,7 +11,7 @@ from chromium import Chromium
 from logs import USUAL, flights, tracked
 from log_panel import given_file
 from trying import Tries, expect
-from using import heard, shown, silent
+from using import heard, shown
 
 # Unpacks a file as the worker of a log does. Returns its text, or null if it is refused as damaged.
 UNPACKED = """((packed) => {
@@ -97,7 +97,6 @@ def members(tries: Tries) -> str:
             expect(got is not None and got.encode("utf-8", "replace") == wanted.decode("utf-8", "replace").encode(),
                    name, "is unpacked to", repr(got)[:99])
     count = many_members(tries, browser)
-    silent(browser)
     return f"{len(rows)} files, {count} members"
 
 

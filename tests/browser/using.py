@@ -1,13 +1,11 @@
 """The page in use: what is typed, clicked and pressed on it, what it shows, and a log that it hears."""
 import json
+import os
+from typing import List, Optional
 
 from chromium import Chromium
-from trying import Tries, expect
-
-
-def silent(browser: Chromium) -> None:
-    browser.evaluate("new Promise((done) => setTimeout(done, 50))")
-    expect(not browser.problems, "the console says", browser.problems)
+from logs import USUAL, Settings, tracked
+from trying import Tries, expect, first_difference
 
 
 def typed(browser: Chromium, **fields: str) -> None:
@@ -45,12 +43,46 @@ def heard(browser: Chromium) -> bytes:
     return str(browser.evaluate("squitterLog.texts().then((texts) => texts.join(''))")).encode()
 
 
-def given_log(browser: Chromium, tries: Tries, log: bytes) -> None:
-    """Hears a log as a file."""
-    path = f"{tries.work}/given.log"
-    with open(path, "wb") as file:
-        file.write(log)
+def heard_right(tries: Tries, log: bytes, settings: Settings = USUAL, *what: object) -> bytes:
+    """The text of the answers, once the log is heard: that of the program."""
+    got, wanted = heard(tries.browser), tracked(tries.program, log, settings)
+    expect(got == wanted, *what, first_difference(got, wanted))
+    return got
+
+
+def example_page(tries: Tries) -> Chromium:
+    """The panel of a log, once it has heard the example."""
+    browser = tries.page("log")
+    clicked(browser, "#log-example")
+    heard(browser)
+    return browser
+
+
+def given_file(browser: Chromium, path: str, data: Optional[bytes] = None, until: str = "worker === null") -> None:
+    """Gives the page a file, with these bytes if there are any. Waits until it is heard or refused."""
+    if data is not None:
+        with open(path, "wb") as file:
+            file.write(data)
     browser.evaluate("squitterLog.name = ''; document.getElementById('log-file').value = ''")
     browser.give("#log-file", path)
-    browser.wait("squitterLog.name === 'given.log'")
-    heard(browser)
+    browser.wait(f"squitterLog.name === {json.dumps(os.path.basename(path))} && squitterLog.{until}")
+
+
+def says(browser: Chromium, *texts: str, of: str = "#log-state") -> None:
+    """Fails unless an element shows these texts."""
+    text = shown(browser, of)
+    expect(all(one in text for one in texts), of, "says", text, "and not", texts)
+
+
+def texts_of(browser: Chromium, selector: str) -> List[str]:
+    """The texts of all elements of a selector."""
+    return list(browser.evaluate(f"[...document.querySelectorAll({json.dumps(selector)})].map((one) => one.textContent)"))
+
+
+def value_of(browser: Chromium, name: str) -> str:
+    return str(browser.evaluate(f"document.getElementById('{name}').value"))
+
+
+def given_log(browser: Chromium, tries: Tries, log: bytes) -> None:
+    """Hears a log as a file."""
+    given_file(browser, f"{tries.work}/given.log", log)

@@ -6,7 +6,7 @@ from typing import Any, List, Sequence, Tuple
 
 from chromium import Chromium
 from trying import AIR_EVEN, AIR_ODD, Tries, expect
-from using import clicked, shown, silent, typed
+from using import clicked, shown, typed
 
 Rows = Sequence[Tuple[str, Any]]
 
@@ -129,7 +129,6 @@ def projections(tries: Tries) -> str:
     """Degrees as points of each plane, grids of lines with their labels, and which projection suits a log."""
     browser = tries.page("log")
     count = compared(browser, PROJECTED, POLAR_TRACKS)
-    silent(browser)
     return f"{count} values"
 
 
@@ -169,7 +168,6 @@ def label_places(tries: Tries) -> str:
     or above."""
     browser = tries.page("log")
     count = compared(browser, LABELLED, ONE_BOX)
-    silent(browser)
     return f"{count} boxes"
 
 
@@ -216,10 +214,9 @@ TRACKED: Rows = (
     *((f"({lons}.forEach((lon, at) => place(4, lon, lon / 2, at, at, 1)), tracks.bounds(4))",
        {"west": -3, "east": 2, "south": -1.5, "north": 1}) for lons in ("[2, 1, -3]", "[-3, 1, 2]", "[1, -3, 2]")),
     # columns that have grown
-    ("(() => { for (let at = 0; at < 40; at++) place(5, at, -at, 100 + at, 1000 + at, 1);"
-     "const [{ lons, lats, moments, lines, room }] = tracks.pieces(5); return [lons, lats, moments, "
-     "lines].map((column) "
-     "=> [column.length, column[0], column[7], column[8], column[39], column.reduce((sum, one) => sum + one)]) })()",
+    ("(() => { for (let at = 0; at < 40; at++) place(5, at, -at, 100 + at, 1000 + at, 1);const [{ lons, lats, moments, "
+     "lines, room }] = tracks.pieces(5); return [lons, lats, moments, lines].map((column) => [column.length, "
+     "column[0], column[7], column[8], column[39], column.reduce((sum, one) => sum + one)]) })()",
      [[40, 0, 7, 8, 39, 780], [40, 0, -7, -8, -39, -780], [40, 100, 107, 108, 139, 4780],
       [40, 1000, 1007, 1008, 1039, 40_780]]),
     ("(() => { const piece = new Piece(false, 1); [0, 500, 500, 1000].forEach((at) => piece.add(0, 0, at, 0));"
@@ -239,7 +236,6 @@ def tracks_in_pieces(tries: Tries) -> str:
     """Where tracks are cut, their bounds, their positions up to a moment, and their GeoJSON."""
     browser = tries.page("log")
     count = compared(browser, TRACKED, CUT_TRACKS)
-    silent(browser)
     return f"{count} values"
 
 
@@ -288,7 +284,6 @@ def listed_answers(tries: Tries) -> str:
     """The counts of results in several pieces, their rows, the altitude of a line, and a filter."""
     browser = tries.page("log")
     count = compared(browser, LISTED, ANSWERED)
-    silent(browser)
     return f"{count} values"
 
 
@@ -379,25 +374,21 @@ def frame_tables(tries: Tries) -> str:
         ("ROWS[2].find(({ name }) => name === 'track status').means({ trackStatus: 0 })", "the track is not valid"),
         ("ROWS[1].find(({ name }) => name === 'T, time').number({ time: 1, odd: 0 })", 1),
     ))
-    silent(browser)
     return f"{len(FIELDS)} tables, {len(MARKED)} marks, {count} meanings"
 
 
 # The pair of the textbook (The 1090 Megahertz Riddle), as its formulas have it: for each frame its zones and point.
-PAIR_STEPS = [
-    ["parity", "even", "odd"], ["latitude code", "93000", "74158"], ["longitude code", "51372", "50194"],
-    ["latitude zone (j)", "8", "8"], ["latitude, exact", "428091/8192", "25261515/483328"],
-    ["latitude", "52.2572021", "52.2657802"], ["longitude zones (NL)", "36", "36"], ["longitude zone (m)", "0", "0"],
-    ["longitude, exact", "64215/16384", "225873/57344"], ["longitude", "3.9193726", "3.9389125"],
-]
+PAIR_STEPS = [["parity", "even", "odd"], ["latitude code", "93000", "74158"], ["longitude code", "51372", "50194"],
+              ["latitude zone (j)", "8", "8"], ["latitude, exact", "428091/8192", "25261515/483328"],
+              ["latitude", "52.2572021", "52.2657802"], ["longitude zones (NL)", "36", "36"],
+              ["longitude zone (m)", "0", "0"], ["longitude, exact", "64215/16384", "225873/57344"],
+              ["longitude", "3.9193726", "3.9389125"]]
 COSINE = math.cos(math.radians(25261515 / 483328))
-ODD_ZONE = [
-    ["latitude zones", "59"], ["latitude zone (j)", "8"], ["zone height", "6.1016949 degrees, 360/59"],
-    ["zone height, a step of 131072", f"0.000046552 degrees, about {360 / 59 / 131072 * 111195:.2f} m"],
-    ["longitude zones (NL) of the even format", "36"], ["longitude zones of this format", "35"],
-    ["longitude zone (m)", "0"], ["zone width", "10.2857143 degrees, 72/7"],
-    ["zone width, a step of 131072", f"0.000078473 degrees, about {72 / 7 / 131072 * 111195 * COSINE:.2f} m"],
-]
+ODD_ZONE = [["latitude zones", "59"], ["latitude zone (j)", "8"], ["zone height", "6.1016949 degrees, 360/59"],
+            ["zone height, a step of 131072", f"0.000046552 degrees, about {360 / 59 / 131072 * 111195:.2f} m"],
+            ["longitude zones (NL) of the even format", "36"], ["longitude zones of this format", "35"],
+            ["longitude zone (m)", "0"], ["zone width", "10.2857143 degrees, 72/7"],
+            ["zone width, a step of 131072", f"0.000078473 degrees, about {72 / 7 / 131072 * 111195 * COSINE:.2f} m"]]
 EVEN_ZONE = [
     ["latitude zones", "60"], ["latitude zone (j)", "8"], ["zone height", "6.0000000 degrees, 6/1"],
     ["zone height, a step of 131072", f"0.000045776 degrees, about {6 / 131072 * 111195:.2f} m"],
@@ -427,8 +418,7 @@ def place_tables(tries: Tries) -> str:
     point = [["latitude", "52.2572021", "428091/8192"], ["longitude", "3.9193726", "64215/16384"]]
     expect(got == [*point, *first], got)
     expect(shown(browser, "#place-hint") == "The reference must be within half a zone: 3 degrees of latitude in the "
-                                            "air,"
-           " 0.75 on the ground.", shown(browser, "#place-hint"))
+                                            "air, 0.75 on the ground.", shown(browser, "#place-hint"))
     expect(browser.evaluate("[...document.querySelectorAll('#place-older-field, #place-lat-label, #place-lon-label, "
                             "#place-newer-label')].map((one) => one.hidden || one.textContent)") ==
            [True, "Frame", "Latitude of the reference", "Longitude of the reference"], "the labels of one frame")
@@ -445,7 +435,6 @@ def place_tables(tries: Tries) -> str:
     wanted = [[str(int(at // (360 / zones))) for zones in pair] for at, pair in ((54.5, (60, 59)), (43, (34, 33)))]
     expect([steps["latitude zone (j)"], steps["longitude zone (m)"]] == wanted, steps, wanted)
     count = ground_tables(browser) + refused_pairs(browser)
-    silent(browser)
     return f"3 tables, {count} more answers"
 
 
@@ -566,5 +555,4 @@ def sent_tables(tries: Tries) -> str:
     typed(browser, send_feet="25")
     heads = browser.evaluate("[...document.querySelectorAll('#send-answer h3')].map((one) => one.textContent)")
     expect(heads == ["Even frame", "Odd frame"], heads)
-    silent(browser)
     return f"{count} values"

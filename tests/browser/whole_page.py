@@ -12,7 +12,7 @@ import firefox
 from chromium import Chromium
 from logs import flights, tracked
 from trying import INDEX, SITE, TOP, Missing, Tries, bytes_of, expect, first_difference, read_text
-from using import ALT, CONTROL, META, clicked, heard, pressed, shown, silent, typed
+from using import ALT, CONTROL, META, clicked, heard, pressed, shown, typed
 
 
 # Fails unless library.js and squitter.js have the same names, and the same code once comments and space are left out.
@@ -154,7 +154,6 @@ def keyboard(tries: Tries) -> str:
         "!one.textContent.trim()).map((one) => one.outerHTML)"
     )
     expect(bare == [], "without a label:", bare)
-    silent(browser)
     return f"{count} keys"
 
 
@@ -237,7 +236,6 @@ def widths(tries: Tries) -> str:
         rows = browser.evaluate("(({ scrollWidth, clientWidth }) => [scrollWidth, clientWidth])(byId('log-rows-box'))")
         expect(rows[0] == rows[1], "the results are", rows[0], "wide in a box of", rows[1], "on", width)
     count += narrow_examples(browser)
-    silent(browser)
     return f"{count} views"
 
 
@@ -288,7 +286,6 @@ def served(tries: Tries) -> str:
         clicked(browser, "#log-example")
         got, wanted = heard(browser), tracked(tries.program, flights(), (10_000, 1000, SITE))
         expect(got == wanted, first_difference(got, wanted))
-        silent(browser)
     finally:
         server.shutdown()
     there = {f"/{name}" for name in os.listdir(f"{TOP}/web")} | {"/"}
@@ -312,7 +309,8 @@ def policy(tries: Tries) -> str:
         told = browser.call("Runtime.evaluate", expression=tried, allowUnsafeEvalBlockedByCSP=False)
         expect(told["result"].get("value") in ("TypeError", "EvalError"), what, "is let through:", told)
     asked = browser.evaluate("fetch('http://127.0.0.1:9/').then(() => 'done', (error) => error.name)")
-    expect(asked == "TypeError" and any("Content Security Policy" in one for one in browser.problems), browser.problems)
+    problems, browser.problems = browser.problems, []
+    expect(asked == "TypeError" and any("Content Security Policy" in one for one in problems), problems)
     text = read_text("web/index.html")
     inline = re.findall(r"<script>|<style|\son\w+=|\sstyle=|javascript:", text)
     expect(not inline and "unsafe-inline" not in text and "'unsafe-eval'" not in text, inline)
@@ -329,7 +327,6 @@ def without_simd(tries: Tries) -> str:
         said = shown(browser, "#notice")
         hidden = browser.evaluate("document.querySelector('main').hidden && document.getElementById('tabs').hidden")
         expect("SIMD" in said and "invalid value type" in said and hidden, said, hidden)
-        silent(browser)
     finally:
         browser.call("Page.removeScriptToEvaluateOnNewDocument", identifier=added)
     return "a sentence"
