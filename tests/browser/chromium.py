@@ -134,7 +134,7 @@ class Chromium:
         node = self.call("DOM.querySelector", nodeId=root, selector=selector)["nodeId"]
         self.call("DOM.setFileInputFiles", nodeId=node, files=[path])
 
-    def look(self, width: int, height: int, dark: bool) -> None:
+    def look(self, width: int = 1100, height: int = 900, dark: bool = False) -> None:
         """The size of the window, and whether the reader likes it dark."""
         self.call("Emulation.setDeviceMetricsOverride", width=width, height=height, deviceScaleFactor=1, mobile=False)
         feature = {"name": "prefers-color-scheme", "value": "dark" if dark else "light"}

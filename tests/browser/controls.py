@@ -4,7 +4,7 @@ import math
 
 from chromium import Chromium
 from trying import Tries, expect
-from using import clicked, given_log, heard, pressed, shown, typed
+from using import changed, clicked, dropped, given_log, heard, pressed, says, shown, typed
 from values import Rows, compared
 
 # The map of the panel with tracks of its own, in equal degrees, 100 points for a degree around 0 degrees.
@@ -118,7 +118,6 @@ def map_moved(tries: Tries) -> str:
     """The map is fitted, zoomed, moved and clicked on; it is drawn again once for several changes, and shows no more
     than it has to."""
     browser = tries.page("log")
-    browser.look(1100, 900, False)
     for script, wanted in MAP_ROWS:
         wanted = browser.evaluate(f"(() => {{ {MOVED}; return {wanted} }})()") if isinstance(wanted, str) and \
             wanted.startswith("{") else wanted
@@ -127,7 +126,7 @@ def map_moved(tries: Tries) -> str:
         times = [browser.evaluate(f"{REDRAWN}(() => {change})") for _ in range(2)]
         expect(times == [1, 1], change, "draws", times)
     drawn = browser.evaluate("squitterLog.map.drawn")
-    browser.look(1100, 900, True)
+    browser.look(dark=True)
     browser.wait(f"squitterLog.map.drawn > {drawn}", 5)
     ratios = browser.evaluate("(() => { const { map } = squitterLog, found = []; for (const ratio of [2, 1]) { "
                               "Object.defineProperty(window, 'devicePixelRatio', { value: ratio, configurable: true "
@@ -138,7 +137,7 @@ def map_moved(tries: Tries) -> str:
                             "(text) => found.push(text); map.say('a'); map.say('a'); map.say('b'); map.told.say = say; "
                             "return found })()")
     expect(said == ["a", "b"], "the map says", said)
-    browser.look(1100, 900, False)
+    browser.look()
     red = browser.evaluate("(() => { const { map } = squitterLog, { width, height } = map.canvas, copy = Object.assign("
                            "document.createElement('canvas'), { width, height }).getContext('2d', { "
                            "willReadFrequently: true }), pen = map.canvas.getContext('2d'); map.scale = 3000; "
@@ -259,7 +258,6 @@ SPOT_ROWS: Rows = (
 def spot_moved(tries: Tries) -> str:
     """The small map: where the position is drawn, and where it goes by keys and by the pointer."""
     browser = tries.page("send")
-    browser.look(1100, 900, False)
     count = compared(browser, SPOT_ROWS, SPOT)
     browser = tries.page("send")
     typed(browser, send_lat="12.5", send_lon="-20.25")
@@ -334,7 +332,8 @@ def log_words(tries: Tries) -> str:
     filters(browser)
     addresses(browser)
     while_decoding(browser)
-    left_alone(browser, tries)
+    left_alone(browser)
+    drops(browser)
     return f"{count} values"
 
 
@@ -369,27 +368,24 @@ def pages_of_table(browser: Chromium, tries: Tries) -> None:
 
 def filters(browser: Chromium) -> None:
     """The results that a filter shows: by kind, and by an address in hexadecimal."""
+    left = "squitterLog.answers.left.length"
     clicked(browser, "#log-example")
     heard(browser)
     counts = browser.evaluate("squitterLog.answers.chunks.flatMap(({ whats }) => [...whats]).reduce((sums, what) => "
                               "(sums[what]++, sums), new Array(8).fill(0))")
-    rows = [("", sum(counts)), ("places", counts[1] + counts[2]), *((str(at), counts[at]) for at in range(8))]
-    for what, wanted in rows:
-        typed(browser, filter_what=what)
-        left = browser.evaluate("squitterLog.answers.left.length")
-        expect(left == wanted, what, "shows", left, "and not", wanted)
-    typed(browser, filter_what="")
     of_one = browser.evaluate("squitterLog.answers.chunks.flatMap(({ addresses, whats }) => "
                               "[...addresses].filter((one, at) => whats[at] && one === 0x484004)).length")
-    for text, wanted in (("484004", of_one), (" 484004 ", of_one), ("48400", 0), ("x", 0), ("", sum(counts))):
-        typed(browser, filter_address=text)
-        left = browser.evaluate("squitterLog.answers.left.length")
-        expect(left == wanted, repr(text), "shows", left, "and not", wanted)
+    rows = [("filter_what", "", sum(counts)), ("filter_what", "places", counts[1] + counts[2]),
+            *(("filter_what", str(at), counts[at]) for at in range(8)), ("filter_what", "", sum(counts)),
+            *(("filter_address", text, of_one) for text in ("484004", " 484004 ")),
+            *(("filter_address", text, 0) for text in ("48400", "x")), ("filter_address", "", sum(counts))]
+    for name, text, wanted in rows:
+        typed(browser, **{name: text})
+        expect(browser.evaluate(left) == wanted, name, repr(text), "shows", browser.evaluate(left), "and not", wanted)
     typed(browser, filter_what="places")
     clicked(browser, "#log-example")
     heard(browser)
-    left = browser.evaluate("squitterLog.answers.left.length")
-    expect(left == counts[1] + counts[2], "another log shows", left, "positions")
+    expect(browser.evaluate(left) == counts[1] + counts[2], "another log shows", browser.evaluate(left), "positions")
     typed(browser, filter_what="")
 
 
@@ -397,9 +393,7 @@ def addresses(browser: Chromium) -> None:
     """The aircraft that can be chosen are sorted, and are 5000 at most."""
     names = "[...byId('map-address').options].map((one) => one.value)"
     listed = browser.evaluate(names)
-    expect(listed == ["", "3C0005", "484004", "484804", "7C0003",
-                      "A00002"][:1] + sorted(listed[1:]) and len(listed) == 6,
-           listed)
+    expect(listed[:1] == [""] and listed[1:] == sorted(listed[1:]) and len(listed) == 6, listed)
     for count in (5000, 5001):
         listed = browser.evaluate("(() => { const tracks = squitterLog.tracks = new Tracks(0); for (let at = 0; at < "
                                   f"{count}; at++) tracks.addPlace(({count} - at) * 16, 0, 0, 1, 1, 1); "
@@ -451,9 +445,9 @@ def while_decoding(browser: Chromium) -> None:
     expect(failed.startswith("a.log: not decoded to its end (why). 5 lines"), failed)
 
 
-def left_alone(browser: Chromium, tries: Tries) -> None:
+def left_alone(browser: Chromium) -> None:
     """A map that the reader has moved stays as its log ends; a cancelled log says so; one that cannot be decoded
-    again says that it was not saved; a dropped text is left to its field."""
+    again says that it was not saved."""
     browser.evaluate("squitterLog.hear(new Blob(['1 x\\n'.repeat(300_000)]), 'long')")
     clicked(browser, "#log-example")
     browser.evaluate("(() => { const { map } = squitterLog; map.center = { x: 1, y: 2 }; map.moved = true })()")
@@ -464,36 +458,31 @@ def left_alone(browser: Chromium, tries: Tries) -> None:
     browser.evaluate("squitterLog.task.file = new Blob(['BZh', 'x'.repeat(100)])")
     clicked(browser, "#log-csv")
     browser.wait("document.getElementById('log-state').textContent.includes('not saved')", 10)
-    expect("(unpack it first" in shown(browser, "#log-state"), shown(browser, "#log-state"))
-    drops = browser.evaluate("['dragover', 'drop', 'dragleave'].map((name) => { const dataTransfer = new "
-                             "DataTransfer(); dataTransfer.setData('text/plain', 'x'); const event = new "
-                             "DragEvent(name, { dataTransfer, bubbles: true, cancelable: true }); "
-                             "byId('log-paste').dispatchEvent(event); return event.defaultPrevented })")
-    expect(drops == [False] * 3, "a text that is dropped is", drops)
-    over = browser.evaluate("['dragover', 'dragleave', 'dragover', 'drop'].map((name) => { const dataTransfer = new "
-                            "DataTransfer(); dataTransfer.items.add(new File(['1 x'], 'one.log')); byId('tab-send')"
-                            ".dispatchEvent(new DragEvent(name, { dataTransfer, bubbles: true, cancelable: true })); "
-                            "return byId('log-drop').classList.contains('over') })")
+    says(browser, "(unpack it first")
+    browser.evaluate("void (squitterLog.hear(exampleLog(), 'cut', { where: ['52.31', '4.76'] }), "
+                     "squitterLog.end('cancelled'))")
+    says(browser, "cut: cancelled. 0 lines")
+    expect(browser.evaluate("[byId('log-cancel').disabled, byId('log-csv').disabled]") == [True, True], "cancelled")
+
+
+def drops(browser: Chromium) -> None:
+    """A dropped text is left to its field; a file is heard wherever it is dropped, and of several the first."""
+    taken = [one for one, _ in dropped(browser, "log-paste", ("dragover", "drop", "dragleave"), "x")]
+    expect(taken == [False] * 3, "a text that is dropped is", taken)
+    over = [one for _, one in dropped(browser, "tab-send", ("dragover", "dragleave", "dragover", "drop"), "1 x",
+                                      "one.log")]
     expect(over == [True, False, True, False], "the place to drop a file is marked:", over)
     clicked(browser, "#tab-send")
-    browser.evaluate("(() => { const dataTransfer = new DataTransfer(); dataTransfer.items.add(new File(['1 x'], "
-                     "'two.log'));document.body.dispatchEvent(new DragEvent('drop', { dataTransfer, bubbles: true, "
-                     "cancelable: true }))})()")
+    dropped(browser, "", ["drop"], "1 x", "two.log")
     heard(browser)
     expect(browser.evaluate("squitterLog.name === 'two.log' && !byId('panel-log').hidden"), "a file dropped elsewhere")
-    browser.evaluate("(() => { const dataTransfer = new DataTransfer(); for (const name of ['a', 'b', 'c']) "
-                     "dataTransfer.items.add(new File(['1 x\\n'], name)); document.body.dispatchEvent("
-                     "new DragEvent('drop', { dataTransfer, bubbles: true, cancelable: true })) })()")
+    dropped(browser, "", ["drop"], "1 x\n", "a", "b", "c")
     heard(browser)
     state = shown(browser, "#log-state")
     expect(state.startswith("a, the first of 3 files: decoded. 1 line, 0 positions, 1 refused"), state)
-    browser.evaluate("(() => { squitterLog.name = ''; byId('log-paste').value = '  '; byId('log-paste').dispatchEvent("
-                     "new Event('change')) })()")
+    browser.evaluate("squitterLog.name = ''")
+    changed(browser, log_paste="  ")
     expect(browser.evaluate("squitterLog.name") == "", "spaces are decoded")
-    browser.evaluate("void (squitterLog.hear(exampleLog(), 'cut', { where: ['52.31', '4.76'] }), "
-                     "squitterLog.end('cancelled'))")
-    expect("cut: cancelled. 0 lines" in shown(browser, "#log-state"), shown(browser, "#log-state"))
-    expect(browser.evaluate("[byId('log-cancel').disabled, byId('log-csv').disabled]") == [True, True], "cancelled")
 
 
 HELPERS: Rows = (

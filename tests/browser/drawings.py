@@ -4,10 +4,9 @@ import math
 from typing import Any, List
 
 from chromium import Chromium
-from trying import AIR_EVEN, AIR_ODD, Tries, expect
+from trying import AIR_EVEN, AIR_ODD, GROUND_EVEN, GROUND_ODD, POLE_EVEN, POLE_ODD, Tries, expect
 from using import clicked, typed
-from values import NEWER_GROUND, OLDER_GROUND, Rows, compared
-
+from values import METRES, STEPS, Rows, compared
 
 
 def zone_count(lat: float) -> int:
@@ -175,17 +174,16 @@ CHANGES = ("tracks.change()", "map.until = 5", "map.address = 7", "map.projectio
 def recorded(tries: Tries) -> str:
     """Tracks, seams, marks, labels and the grid, by the calls of a pen; what makes the map draw a layer again."""
     browser = tries.page("log")
-    browser.look(1100, 900, False)
     count = compared(browser, [*LINES, *CHARTS], SMALL_MAP)
     for change in CHANGES:
         script = f"[keysNow(), ({change}, keysNow())]"
         (land, lines), (new_land, new_lines) = browser.evaluate(f"(() => {{ {SMALL_MAP}; {KEYS}; return {script} }})()")
         expect(lines != new_lines and (land != new_land) == ("projection" in change), change, lines, new_lines)
     light = browser.evaluate(f"(() => {{ {SMALL_MAP}; {KEYS}; return keysNow() }})()")
-    browser.look(1100, 900, True)
+    browser.look(dark=True)
     dark = browser.evaluate(f"(() => {{ {SMALL_MAP}; {KEYS}; return keysNow() }})()")
     expect(light[0] != dark[0] and light[1].split(" ")[-1] != dark[1].split(" ")[-1], light, dark)
-    browser.look(1100, 900, False)
+    browser.look()
     count += compared(browser, (
         ("(chart().draw(), map.scale = 2500, chart().draw(), map.scale = 2500.1, chart().draw(), said)",
          ["equal degrees, lines every 10°", "equal degrees, lines every 0.05°",
@@ -288,7 +286,6 @@ SPRITED: Rows = (
 def kept_layers(tries: Tries) -> str:
     """A layer is drawn again when it has to be, and moved else; labels are drawn once, in their colours."""
     browser = tries.page("log")
-    browser.look(1100, 900, False)
     count = compared(browser, PAINTED, LAYERED) + compared(browser, SPRITED, SPRITES)
     return f"{count} drawings"
 
@@ -409,7 +406,7 @@ WAYS: Rows = (
     (f"((library, older, newer) => zoneMarks(library, older, library.pair(newer, older), 'given', 'text').map(({{ lon, "
      f"lat, text }}) => [lon, lat, text]))(library, library.frame('{AIR_EVEN}'), library.frame('{AIR_ODD}')).filter("
      "([lon]) => lon > 0 && lon < 10)",
-     [[51372 / 131072 * 360 / zone_count(428091 / 8192 + north), 428091 / 8192 + north, "" if north else "text"]
+     [[51372 / STEPS * 360 / zone_count(428091 / 8192 + north), 428091 / 8192 + north, "" if north else "text"]
       for north in (-6, 0, 6)]),
     (f"((older, newer) => {{ const [picture] = pairPicture(library, older, newer, library.pair(older, newer)); return "
      f"[shapes(picture, '.way-given').length, shapes(picture, '.way-other').length, shapes(picture, 'circle')[0].cx, "
@@ -420,11 +417,11 @@ WAYS: Rows = (
      "library.encode(new AirHead({ address: 1 }), { lat: 10, lon: 179.99 }))", 9),
     ("((older, newer) => pairPicture(library, older, newer, library.pair(older, newer)).map((picture) => "
      "shapes(picture, '.way-line').filter(({ d }) => d.endsWith('V250')).length))("
-     "library.frame('8D43029E58C3850001C89AEDB595'), library.frame('8D43029E58C3800001C89AE29463'))", [4]),
+     f"library.frame('{POLE_EVEN}'), library.frame('{POLE_ODD}'))", [4]),
     ("((older, newer) => { const site = { lat: library.angle('51.990'), lon: library.angle('4.375') }, picture = "
      "groundPicture(library, older, newer, site, library.pair(older, newer, site)); return [shapes(picture, "
      "'.way-other').map(({ x, y }) => [x < 0, Math.round((x + 4) / 50), y < 121]), shapes(picture, '.way-box')] })("
-     f"library.frame('{OLDER_GROUND}'), library.frame('{NEWER_GROUND}'))",
+     f"library.frame('{GROUND_EVEN}'), library.frame('{GROUND_ODD}'))",
      [[[False, at, north] for at in (4, 6, 0, 2) for north in (True, False)],
       [{"x": 200 * (1 + (4.375 - 45) / 180), "y": 125 * (1 - (51.99 + 45) / 90), "width": 100, "height": 125,
         "class": "way-box"}]]),
@@ -459,7 +456,7 @@ def close_picture(browser: Chromium) -> int:
     spots[2] += 7
     cosine = browser.evaluate("Math.cos(parseFloat(byId('send-lat').value) * Math.PI / 180)")
     for at in (0, 1):
-        east, north = (error[at] * 111195 * factor for error, factor in zip(errors, (cosine, 1)))
+        east, north = (error[at] * METRES * factor for error, factor in zip(errors, (cosine, 1)))
         right, up = ((spots[2 * at] - 200) / 250 * high, (125 - spots[2 * at + 1]) / 250 * high)
         expect(abs(right - east) < 0.02 and abs(up - north) < 0.02, "a frame of", east, north, "is at", right, up)
     return 2

@@ -4,9 +4,9 @@ import math
 from typing import List, Tuple
 
 from chromium import Chromium
-from logs import flights, tracked
-from trying import SITE, Tries, expect
-from using import clicked, heard
+from logs import NEAR, flights, tracked
+from trying import Tries, expect
+from using import changed, clicked, example_page, heard, value_of
 
 # Places, off the lines of the grid, and whether they are on land: inside countries, in seas, and in a sea within the
 # land.
@@ -62,7 +62,7 @@ def land(tries: Tries) -> str:
     dark, and after the map was moved. Where the coast would be wrong by many points it is not drawn."""
     browser, count = tries.page("log"), 0
     for dark in (False, True):
-        browser.look(1100, 900, dark)
+        browser.look(dark=dark)
         for view in ("plain", "mercator", "north", "south"):
             for scale in (3, 30):
                 count += sum(is_shown(browser, place, view, scale) for place in PLACES)
@@ -235,7 +235,7 @@ def selected(tries: Tries) -> str:
         box = browser.evaluate("(({ top, bottom }) => [top, bottom])(document.getElementById('map')"
                                ".getBoundingClientRect())")
         expect(0 <= box[0] and box[1] <= height, "the map is at", box, "of", height)
-        chosen = browser.evaluate("document.getElementById('map-address').value")
+        chosen = value_of(browser, "map-address")
         expect(chosen == "484004" and browser.evaluate("squitterLog.map.address") == 0x484004, "selected is", chosen)
         spots = browser.evaluate("squitterLog.tracks.pieces(0x484004).flatMap(({ lons, lats }) => "
                                  "Array.from(lons, (lon, at) => squitterLog.map.spot({ lon, lat: lats[at] })))")
@@ -248,17 +248,16 @@ def selected(tries: Tries) -> str:
         expect(max(shares) > 0.3, "the flight fills", shares, "of the map")
     kinds = browser.evaluate("squitterLog.tracks.pieces(0x484004).map(({ kind, joined }) => [kind, joined])")
     expect(kinds == [[2, False], [1, True]], "the pieces of a take-off are", kinds)
-    browser.look(1100, 900, False)
+    browser.look()
     clicked(browser, "[data-map=fit]")
-    browser.evaluate("document.getElementById('map-address').value = ''; "
-                     "document.getElementById('map-address').dispatchEvent(new Event('change'))")
+    changed(browser, map_address="")
     expect(browser.evaluate("Number.isNaN(squitterLog.map.address)"), "all is not shown")
     wide = [browser.evaluate(f"squitterLog.map.draw(), {LINE_WIDE}(0x3C0005)") for _ in range(2)]
     browser.evaluate("squitterLog.map.choose(squitterLog.tracks.newest(0x3C0005))")
     browser.evaluate("squitterLog.map.choose(null)")
     wide += [browser.evaluate(f"squitterLog.map.draw(), {LINE_WIDE}(0x3C0005)") for _ in range(2)]
     expect(wide[0] == wide[1] and wide[2] == wide[3] > wide[0], "the mark is", wide, "points wide")
-    expect(browser.evaluate("document.getElementById('map-address').value") == "3C0005", "the field stays")
+    expect(value_of(browser, "map-address") == "3C0005", "the field stays")
     return "an example on a desktop and on a phone"
 
 
@@ -345,11 +344,9 @@ def drawn_tracks(tries: Tries) -> str:
 def saved_rows(tries: Tries) -> str:
     """The example as CSV is what the program prints for it, and each row of the table has the altitude that is there,
     below a header that stays."""
-    browser = tries.page("log")
-    clicked(browser, "#log-example")
-    heard(browser)
+    browser = example_page(tries)
     clicked(browser, "#log-csv")
-    got, wanted = tries.downloaded("answers.csv"), tracked(tries.program, flights(), (10_000, 1000, SITE), "csv")
+    got, wanted = tries.downloaded("answers.csv"), tracked(tries.program, flights(), NEAR, "csv")
     expect(got == wanted, got[:300], wanted[:300])
     expect(browser.evaluate("document.querySelectorAll('a[download]').length") == 0, "a link to the file is left")
     rows = [line.split(",") for line in wanted.decode().splitlines()[1:]]

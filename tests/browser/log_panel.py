@@ -6,12 +6,14 @@ import lzma
 import os
 import re
 import subprocess
+from pathlib import Path
+from typing import Dict, Tuple
 
 from chromium import Chromium
-from logs import NEAR, PIECE_BYTES, USUAL, damaged, flights, hostile_logs, of_address, tracked
+from logs import NEAR, PIECE_BYTES, USUAL, Settings, damaged, flights, hostile_logs, of_address, tracked
 from trying import AIR_EVEN, AIR_ODD, SITE, Tries, bytes_of, expect, first_difference
-from using import (clicked, example_page, given_file, given_log, heard, heard_right, pressed, says, shown, texts_of, typed,
-                   value_of)
+from using import (changed, clicked, dropped, example_page, given_file, given_log, heard, heard_right, pressed, says,
+                   shown, texts_of, typed, value_of)
 
 
 def example(tries: Tries) -> str:
@@ -47,14 +49,6 @@ def example(tries: Tries) -> str:
     return f"{len(wanted.splitlines())} answers, {len(features)} pieces of tracks"
 
 
-DROP = """(() => {
-  const dataTransfer = new DataTransfer();
-  dataTransfer.items.add(new File([exampleLog()], "dropped.log"));
-  const drop = new DragEvent("drop", { dataTransfer, bubbles: true, cancelable: true });
-  document.getElementById("log-table").dispatchEvent(drop);
-})()"""
-
-
 def logs_in_browser(tries: Tries) -> str:
     """Hostile logs as files, beside the program."""
     browser = tries.page("log")
@@ -66,13 +60,13 @@ def logs_in_browser(tries: Tries) -> str:
         heard_right(tries, log, (window, limit, site), name)
         count += 1
     typed(browser, log_window="10000", log_limit="1000", log_lat=SITE[0], log_lon=SITE[1])
-    browser.evaluate(DROP)
+    dropped(browser, "log-table", ["drop"], flights().decode(), "dropped.log")
     heard_right(tries, flights(), NEAR)
     says(browser, "dropped.log")
     for field, bad in (("log_window", "x"), ("log_limit", "0"), ("log_lat", "91"), ("log_lon", "")):
         typed(browser, log_window="10000", log_limit="1000", log_lat="1", log_lon="1")
         typed(browser, **{field: bad})
-        browser.evaluate(DROP)
+        dropped(browser, "log-table", ["drop"], flights().decode(), "dropped.log")
         expect(shown(browser, "#log-state").startswith("Refused: "), field, shown(browser, "#log-state"))
     # a setting that is refused ends the log that is being decoded, and then there is nothing to cancel
     typed(browser, log_window="10000", log_limit="1000", log_lat="", log_lon="")
@@ -239,13 +233,6 @@ def own_site(tries: Tries) -> str:
     return "two lines from Sydney, with and without a site"
 
 
-def changed(browser: Chromium, **fields: str) -> None:
-    """Types into fields and leaves each, so that the browser reports a change."""
-    for name, text in fields.items():
-        typed(browser, **{name: text})
-        browser.evaluate(f"document.getElementById('{name.replace('_', '-')}').dispatchEvent(new Event('change'))")
-
-
 def chosen_again(browser: Chromium, path: str) -> None:
     """Opens the dialog of the file field by the mouse, and chooses a file."""
     browser.call("Page.setInterceptFileChooserDialog", enabled=True)
@@ -259,6 +246,13 @@ def chosen_again(browser: Chromium, path: str) -> None:
     browser.give("#log-file", path)
     browser.wait("squitterLog.name === 'again.log'")
     browser.call("Page.setInterceptFileChooserDialog", enabled=False)
+
+
+# What is changed, and the settings after it.
+CHANGES: Tuple[Tuple[Dict[str, str], Settings], ...] = (
+    ({"log_window": "400"}, (400, 1000, SITE)), ({"log_limit": "2"}, (400, 2, SITE)),
+    ({"log_limit": "1000", "log_window": "10000"}, NEAR), ({"log_lat": "-33.9"}, (10_000, 1000, ("-33.9", SITE[1]))),
+    ({"log_lat": "", "log_lon": ""}, USUAL))
 
 
 def heard_again(tries: Tries) -> str:
@@ -279,13 +273,7 @@ def heard_again(tries: Tries) -> str:
     expect(shown(browser, "#log-state").startswith("again.log: decoded"), shown(browser, "#log-state"))
     changed(browser, log_lon=SITE[1])
     near = heard_right(tries, log, NEAR, "another site:")
-    for fields, settings in (
-        ({"log_window": "400"}, (400, 1000, SITE)),
-        ({"log_limit": "2"}, (400, 2, SITE)),
-        ({"log_limit": "1000", "log_window": "10000"}, NEAR),
-        ({"log_lat": "-33.9"}, (10_000, 1000, ("-33.9", SITE[1]))),
-        ({"log_lat": "", "log_lon": ""}, USUAL),
-    ):
+    for fields, settings in CHANGES:
         changed(browser, **fields)
         heard_right(tries, log, settings, fields)
         expect(browser.evaluate("squitterLog.tracks.window") == settings[0], "the gap of a track with", fields)
@@ -451,8 +439,9 @@ def long_log(tries: Tries) -> str:
     """Two hundred thousand lines: the page answers meanwhile, can cancel, and hears them all."""
     browser = tries.page("log")
     path, log = f"{tries.work}/long.log", damaged(200_000)
+    Path(path).write_bytes(log)
     browser.evaluate(PROGRESS)
-    given_file(browser, path, log)
+    given_file(browser, path)
     # A page that decoded the log by itself would do nothing else until the end, however long that takes.
     longest, whole = browser.evaluate("[longest, performance.now() - begun]")
     expect(longest < whole / 2, "the page did nothing else for", longest, "of", whole, "milliseconds")
@@ -516,7 +505,7 @@ def maps(tries: Tries) -> str:
             count += 1
     clicked(browser, "#log-example")
     heard(browser)
-    typed_choice(browser, "map-address", "")
+    chosen(browser, map_address="")
     expect("equal degrees" in shown(browser, "#map-state"), shown(browser, "#map-state"))
     count += zoomed_views(browser)
     clicked(browser, "[data-map=fit]")
@@ -526,10 +515,9 @@ def maps(tries: Tries) -> str:
     return f"{count} views and places, {len(south)} lines near the pole"
 
 
-def typed_choice(browser: Chromium, field: str, value: str) -> None:
-    """Chooses an option of a field, and waits until the map is drawn."""
-    named = f"document.getElementById('{field}')"
-    browser.evaluate(f"{named}.value = '{value}'; {named}.dispatchEvent(new Event('change'))")
+def chosen(browser: Chromium, **fields: str) -> None:
+    """Chooses options of fields, and waits until the map is drawn."""
+    changed(browser, **fields)
     browser.evaluate("new Promise((done) => requestAnimationFrame(() => requestAnimationFrame(done)))")
 
 
@@ -538,7 +526,7 @@ def zoomed_views(browser: Chromium) -> int:
     count = 0
     views = (("north", "north pole"), ("south", "south pole"), ("mercator", "Mercator"), ("plain", "equal degrees"))
     for view, title in views:
-        typed_choice(browser, "map-view", view)
+        chosen(browser, map_view=view)
         expect(title in shown(browser, "#map-state"), view, shown(browser, "#map-state"))
         for factor in (1, 40, 4000, 1 / 1e6):
             browser.evaluate(f"squitterLog.map.zoom({factor}); squitterLog.map.draw()")

@@ -4,7 +4,7 @@ from typing import Any, List
 
 from chromium import Chromium
 from trying import AIR_EVEN, Tries, expect
-from using import clicked, heard, pressed, shown, typed
+from using import clicked, given_file, pressed, shown, typed
 
 # Keeps what the state of the log says, and whether it is read aloud.
 STATES = """{
@@ -60,12 +60,8 @@ def log_aloud(tries: Tries) -> int:
     browser, path = tries.page("log"), f"{tries.work}/aloud.log"
     role, name, description = accessible(browser, "#map")
     expect((role, name) == ("application", "Map") and "Enter reads the position" in description, role, description)
-    with open(path, "w", encoding="ascii") as file:
-        file.writelines(f"{moment} {AIR_EVEN}\n" for moment in range(80_000))
     browser.evaluate(STATES)
-    browser.give("#log-file", path)
-    browser.wait("squitterLog.name === 'aloud.log'")
-    heard(browser)
+    given_file(browser, path, "".join(f"{moment} {AIR_EVEN}\n" for moment in range(80_000)).encode())
     first, *counts, last = browser.evaluate("statesTold")
     expect(first == ["polite", "Decoding aloud.log."], first)
     expect(len(counts) > 1 and all(live == "off" and text.endswith("results.") for live, text in counts), counts)

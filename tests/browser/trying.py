@@ -15,9 +15,10 @@ TOP = os.path.dirname(os.path.dirname(HERE))
 
 INDEX = f"file://{TOP}/web/index.html"
 SITE = ("52.31", "4.76")
-AIR_EVEN = "8D40621D58C382D690C8AC2863A7"
+AIR_EVEN, AIR_ODD = "8D40621D58C382D690C8AC2863A7", "8D40621D58C386435CC412692AD6"
+GROUND_EVEN, GROUND_ODD = "8C4841753AAB238733C8CD4020B1", "8C4841753A8A35323FAEBDAC702D"
+POLE_EVEN, POLE_ODD = "8D43029E58C3850001C89AEDB595", "8D43029E58C3800001C89AE29463"  # at the south pole
 NARROW, WIDE = "squitter.wasm", "squitter64.wasm"  # the module with 32-bit memory, and what it is made from
-AIR_ODD = "8D40621D58C386435CC412692AD6"
 
 
 class Failed(Exception):
@@ -96,7 +97,7 @@ class Tries:
     def page(self, panel: str = "frame", address: str = INDEX) -> chromium.Chromium:
         """The page, opened anew on a panel."""
         browser = self.browser
-        browser.look(1100, 900, False)
+        browser.look()
         browser.open(f"{address}#{panel}")
         return browser
 

@@ -10,9 +10,9 @@ from typing import List, Tuple
 
 import firefox
 from chromium import Chromium
-from logs import flights, tracked
-from trying import INDEX, SITE, TOP, Missing, Tries, bytes_of, expect, first_difference, read_text
-from using import ALT, CONTROL, META, clicked, heard, pressed, shown, typed
+from logs import NEAR, flights, tracked
+from trying import INDEX, TOP, Missing, Tries, bytes_of, expect, first_difference, read_text
+from using import ALT, CONTROL, META, clicked, example_page, heard, heard_right, pressed, shown, typed
 
 
 # Fails unless library.js and squitter.js have the same names, and the same code once comments and space are left out.
@@ -191,9 +191,7 @@ def forced_colours(tries: Tries) -> str:
 
 def printed(tries: Tries) -> str:
     """On paper, tables are whole: no row or column is behind a scroll bar."""
-    browser = tries.page("log")
-    clicked(browser, "#log-example")
-    heard(browser)
+    browser = example_page(tries)
     browser.look(718, 1000, False)  # the width of A4 without its margins, in CSS pixels
     browser.call("Emulation.setEmulatedMedia", media="print")
     count = 0
@@ -219,9 +217,7 @@ PANELS = ("frame", "place", "send", "log")
 
 def widths(tries: Tries) -> str:
     """Nothing is wider than a phone, in light and dark; pictures are left where SHOTS names a folder."""
-    browser, folder, count = tries.page("log"), os.environ.get("SHOTS"), 0
-    clicked(browser, "#log-example")
-    heard(browser)
+    browser, folder, count = example_page(tries), os.environ.get("SHOTS"), 0
     for width in (1100, 390, 320, 280):
         for dark in (False, True):
             browser.look(width, 900, dark)
@@ -284,8 +280,7 @@ def served(tries: Tries) -> str:
     try:
         browser = tries.page("log", f"http://127.0.0.1:{server.server_port}/")
         clicked(browser, "#log-example")
-        got, wanted = heard(browser), tracked(tries.program, flights(), (10_000, 1000, SITE))
-        expect(got == wanted, first_difference(got, wanted))
+        heard_right(tries, flights(), NEAR)
     finally:
         server.shutdown()
     there = {f"/{name}" for name in os.listdir(f"{TOP}/web")} | {"/"}
@@ -344,7 +339,7 @@ def in_firefox(tries: Tries) -> str:
         browser.open(f"{INDEX}#log")
         browser.evaluate("document.getElementById('log-example').click()")
         browser.wait("document.getElementById('log-state').textContent.includes('decoded. ')")
-        got, wanted = browser.evaluate(TEXT).encode(), tracked(tries.program, flights(), (10_000, 1000, SITE))
+        got, wanted = browser.evaluate(TEXT).encode(), tracked(tries.program, flights(), NEAR)
         expect(got == wanted, first_difference(got, wanted))
         frame = browser.evaluate("document.getElementById('frame-answer').textContent")
         expect("38000 feet" in frame and "40621D" in frame, frame)
