@@ -521,7 +521,8 @@ def tabs(tries: Tries) -> str:
         expect(got == wanted and address == f"#{names[index]}", why, got, address)
 
     is_open(2, "by the address")
-    keys = (("ArrowRight", 3), ("ArrowRight", 0), ("ArrowLeft", 3), ("ArrowLeft", 2), ("Home", 0), ("End", 3))
+    keys = (("ArrowRight", 3), ("ArrowRight", 0), ("ArrowLeft", 3), ("ArrowLeft", 2), ("Home", 0),
+            ("ArrowRight", 1), ("ArrowRight", 2), ("End", 3))
     for key, index in keys:
         browser.evaluate("document.querySelector('[aria-selected=true]').focus()")
         pressed(browser, key)

@@ -1,6 +1,7 @@
 /* module.mjs check | track WINDOW [LAT LON] | names | hints | refusals: web/squitter.js in Node, as a program that
  * imports it. `check` and `track` answer lines of standard input as the program does; `names` prints what the module
- * has, for its types to be held to; `hints` prints what faults say to do; `refusals` tries what no frame spells. */
+ * has, for its types to be held to; `hints` prints what faults say to do; `refusals` tries calls that are refused, and
+ * the tests of TESTS. */
 import { readFileSync } from "node:fs";
 import { setTimeout as waited } from "node:timers/promises";
 import { setFlagsFromString } from "node:v8";
@@ -531,8 +532,6 @@ function orders() {
   const due = [numbersOf(filled.take([1000, 1002, 1001], numbered([3000, 3002, 3001]))), numbersOf(filled.flush())];
   same(due, [early.map((at) => `0:${at}`).join(" "), "1000:3000 1001:3001 1002:3002"], "outputs that fill up");
   filled.close();
-  same(codeOf(() => filled.take([2n ** 64n - 1n], zeros(FRAME_BYTES).fill(255))), Code.NO_TRACKER, "a closed order");
-  same(library.memory.bytesAt(library.memory.zerosAt, 64).some(Boolean), false, "what a closed order has written");
   for (const count of [1, ...about(AT_ONCE), 2 * AT_ONCE, ...about(FIRST_ROOM), 5462, 5463, 9000, 40_000]) {
     const full = orderOf(2n ** 64n - 1n), numbers = numbersTo(count), moments = numbers.map((at) => (at ^ 1) + 7);
     const sorted = [...numbers].sort((one, other) => (one ^ 1) - (other ^ 1));
@@ -554,9 +553,17 @@ function workedPositions() {
   same([library.angleE7(lat), north, west], [522572021n, 3333333, -1], "ten-millionths");
 }
 
+/** Tests what a library is loaded from: what is no module is refused, and so is a response that is not good. */
+async function sources() {
+  const given = [MODULE, MODULE.subarray(0, -1), zeros(3), Promise.resolve(new Response("", { status: 404 }))];
+  const thrown = await Promise.all(given.map((source) => load(source).then(() => null, (error) => error)));
+  same(thrown.map((error) => error?.name ?? null), [null, "CompileError", "CompileError", "Error"], "sources");
+  same(thrown[3].message.includes("404"), true, `the words "${thrown[3].message}"`);
+}
+
 const TESTS = [asJson, eachField, fieldsOfHeads, defaultWindows, manyAnswers, largeMomentsAndZones, degrees,
   lackedFields, defaultFields, foreignBytes, keptWhole, usedAgain, longTexts, collected, statesInMemory,
-  copiesOfSettings, piecesOfBytes, piecesOfText, unitsOfTimestamps, largeFeeds, orders, workedPositions];
+  copiesOfSettings, piecesOfBytes, piecesOfText, unitsOfTimestamps, largeFeeds, orders, workedPositions, sources];
 
 /** Tries each refusal, and that one leaves nothing behind for the next call; then runs the other tests. */
 async function refusals() {

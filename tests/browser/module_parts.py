@@ -54,31 +54,6 @@ def in_workers(tries: Tries) -> str:
     return of_program(tries, "workers.mjs")
 
 
-REFUSED = """
-import { load } from "TOP/web/squitter.js";
-import { readFileSync } from "node:fs";
-const whole = readFileSync("TOP/dist/squitter.wasm"), told = [];
-const tried = (given) => load(given).then(() => told.push("loaded"), ({ name, message }) => told.push([name, message]));
-await tried(whole);
-await tried(whole.subarray(0, -1));
-await tried(new Uint8Array(3));
-await tried(Promise.resolve(new Response("", { status: 404 })));
-console.log(JSON.stringify(told));
-"""
-
-
-def refused(tries: Tries) -> str:
-    """Node loads the module without a flag. What is no module is refused, and so is an answer that is not good."""
-    script = REFUSED.replace("TOP", TOP)
-    done = subprocess.run([*tries.node, "--input-type=module", "-e", script], capture_output=True, text=True)
-    expect(done.returncode == 0, done.stderr)
-    first, *others = json.loads(done.stdout)
-    expect(first == "loaded", first)
-    expect([name for name, _ in others] == ["CompileError", "CompileError", "Error"], others)
-    expect("404" in others[-1][1], others)
-    return f"{len(others)} sources"
-
-
 # Only Python has calls of arrays: there, a call costs more than the work it asks for.
 OF_PYTHON_ALONE = {"local_many", "pair_many", "read_many", "Present", "Results"}
 

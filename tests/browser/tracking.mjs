@@ -138,8 +138,7 @@ function ownBytes() {
   same([told.code, told.first, told.second], [Code.ZONE_COUNTS, "59", 58], "the JSON of a split");
 }
 
-/** Memory grows by a block that starts at its end; a block that others have used is no tracker; a log that is closed
- * writes nothing. */
+/** Memory grows by a block that starts at its end; a block that others have used is no tracker. */
 function sharedMemory() {
   const { memory } = library, end = memory.exports.memory.buffer.byteLength;
   memory.free = [];
@@ -153,14 +152,6 @@ function sharedMemory() {
     memory.release(used);
     same(codeOf(() => new kind(library, { site: { lat: 91, lon: 0 } })), Code.BAD_POSITION, name);
   }
-  const log = new Log(library), closed = new Log(library);
-  closed.close();
-  const others = [1 << 16, 1 << 18].map((count) => memory.claim(count));
-  for (const { at, count } of others) memory.bytesAt(at, count).fill(7);
-  same(codeOf(() => closed.take(`5 ${FRAME}\n`)), Code.NO_TRACKER, "a closed log");
-  same(codeOf(() => closed.takeText(`5 ${FRAME}\n`)), Code.NO_TRACKER, "a closed log");
-  for (const { at, count } of others) same(memory.bytesAt(at, count).every((byte) => byte === 7), true, "its memory");
-  same(log.takeText(`5 ${FRAME}\n`), "1 waiting 40621D\n", "another log");
 }
 
 /** By default a gap above ten minutes is a jump. */

@@ -6,7 +6,7 @@ from typing import Any, List, Sequence, Tuple
 
 from chromium import Chromium
 from trying import AIR_EVEN, AIR_ODD, GROUND_EVEN, GROUND_ODD, Tries, expect
-from using import clicked, shown, texts_of, typed, value_of
+from using import clicked, says, shown, texts_of, typed, value_of
 
 Rows = Sequence[Tuple[str, Any]]
 STEPS, METRES = 1 << 17, 111195  # of a zone, each way; of a degree of a great circle, rounded
@@ -314,12 +314,16 @@ ANSWER_CELLS = ("[...document.querySelectorAll('#{0} tbody tr')].map((row) => "
 RUNS = ("[...document.querySelectorAll('#frame-answer .run')].map((run) => [run.className, run.title, "
         "...[...run.children].map((one) => one.textContent)])")
 
-MARKED = (
-    ("*8D40621D58C382D690G8AC2863A7;", "Character 20 is not a hexadecimal digit.", 19),
-    ("8D40621D58C382D690G8AC2863A7", "Character 19 is not a hexadecimal digit.", 18),
-    ("G" + AIR_EVEN[1:], "Character 1 is not a hexadecimal digit.", 0),
-    (f"*{AIR_EVEN}", "A frame has * before it and ; after it, or neither. One is missing at the mark.", 29),
-    (f"{AIR_EVEN};", "A frame has * before it and ; after it, or neither. One is missing at the mark.", 0),
+LACKING = "A frame has * before it and ; after it, or neither. One is missing at the mark."
+FAULTS = (
+    # the text, what is said of it, and the index of the character that is marked
+    (f"*{AIR_EVEN[:7]}G{AIR_EVEN[8:]};", "bad digit 8", "Character 9 is not a hexadecimal digit.", 8),
+    ("*8D40621D58C382D690G8AC2863A7;", "bad digit", "Character 20 is not a hexadecimal digit.", 19),
+    ("8D40621D58C382D690G8AC2863A7", "bad digit", "Character 19 is not a hexadecimal digit.", 18),
+    ("G" + AIR_EVEN[1:], "bad digit", "Character 1 is not a hexadecimal digit.", 0),
+    (f"*{AIR_EVEN}", "bad wrapping", LACKING, 29), (f"{AIR_EVEN};", "bad wrapping", LACKING, 0),
+    (f"{AIR_EVEN[:-1]}6", "parity 000001", "the remainder is 000001", None), ("<b>", "bad length 3", "", None),
+    ("", "bad length 0", "", None), ("5D40621D58C382", "short frame", "", None),
 )
 
 
@@ -341,10 +345,15 @@ def frame_tables(tries: Tries) -> str:
                             FIELDS):
         typed(browser, frame_text=wanted[0])
         expect(browser.evaluate("document.querySelector('#frame-answer .answer').textContent") == head, head)
-    for text, said, at in MARKED:
+    for text, words, said, at in FAULTS:
         typed(browser, frame_text=text)
-        marked = browser.evaluate("document.querySelector('#frame-answer .marked').textContent")
-        expect(marked == f"{text[:at]}{text[at:at + 1] or ' '}{text[at + 1:]}{' ' * at}^", text, repr(marked))
+        says(browser, words, said, of="#frame-answer")
+        marked = texts_of(browser, "#frame-answer mark") + texts_of(browser, "#frame-answer .marked")
+        if at is None:
+            expect(marked == [], text, "marks", marked)
+            continue
+        mark = text[at:at + 1] or " "
+        expect(marked == [mark, f"{text[:at]}{mark}{text[at + 1:]}{' ' * at}^"], text, marked)
         expect(shown(browser, "#frame-answer").endswith(said), text, shown(browser, "#frame-answer"))
     clicked(browser, f"[data-frame='{GROUND_ODD}']")
     expect(shown(browser, "#frame-answer").startswith("484175: surface"), "an example is not shown at once")
@@ -355,7 +364,7 @@ def frame_tables(tries: Tries) -> str:
         ("ROWS[2].find(({ name }) => name === 'track status').means({ trackStatus: 0 })", "the track is not valid"),
         ("ROWS[1].find(({ name }) => name === 'T, time').number({ time: 1, odd: 0 })", 1),
     ))
-    return f"{len(FIELDS)} tables, {len(MARKED)} marks, {count} meanings"
+    return f"{len(FIELDS)} tables, {len(FAULTS)} faults, {count} meanings"
 
 
 # The pair of the textbook (The 1090 Megahertz Riddle), as its formulas have it: for each frame its zones and point.

@@ -1,5 +1,4 @@
 """Parts of tests/page about all of it: its files, colours, keys, widths and policy, by a web server and in Firefox."""
-import functools
 import http.server
 import os
 import re
@@ -120,32 +119,15 @@ def contrast(tries: Tries) -> str:
 
 
 def keyboard(tries: Tries) -> str:
-    """Tabs and the map go by keys, and every field has a label."""
+    """The map goes by keys, and every field has a label. (controls.tabs has the keys of the tabs.)"""
     browser = tries.page()
-    count = 0
-    press = functools.partial(pressed, browser)
-
-    browser.evaluate("document.getElementById('tab-frame').focus()")
-    for key, panel in (
-        ("ArrowRight", "place"),
-        ("ArrowRight", "send"),
-        ("End", "log"),
-        ("ArrowRight", "frame"),
-        ("ArrowLeft", "log"),
-    ):
-        press(key)
-        open_panels = browser.evaluate(
-            "[...document.querySelectorAll('[role=tabpanel]')].filter((one) => !one.hidden).map((one) => one.id)"
-        )
-        expect(open_panels == [f"panel-{panel}"], key, open_panels)
-        count += 1
-    count += keys_of_the_browser(browser)
+    count = keys_of_the_browser(browser)
     clicked(browser, "#log-example")
     heard(browser)
     browser.evaluate("document.getElementById('map').focus()")
     for key, value in (("+", "scale"), ("-", "scale"), ("ArrowLeft", "center.x"), ("ArrowUp", "center.y")):
         before = browser.evaluate(f"squitterLog.map.{value}")
-        press(key)
+        pressed(browser, key)
         expect(browser.evaluate(f"squitterLog.map.{value}") != before, key, "changes nothing")
         count += 1
     bare = browser.evaluate(
