@@ -225,7 +225,7 @@ SPOT_ROWS: Rows = (
     *((f"(map.zoom(20), map.show({{ lon: 18 + {east}, lat: 9 + {north} }}), circle())", wanted)
       for east, north, wanted in (
           (18.9, 0, [389, 100]), (19, 0, [200, 100]), (-18.9, 0, [11, 100]), (-19, 0, [200, 100]),
-                                  (0, 8.9, [200, 11]), (0, 9, [200, 100]), (0, -8.9, [200, 189]), (0, -9, [200, 100]))),
+          (0, 8.9, [200, 11]), (0, 9, [200, 100]), (0, -8.9, [200, 189]), (0, -9, [200, 100]))),
     ("(map.zoom(20), map.isHeld = true, map.show({ lon: 37.5, lat: 9 }), circle())", [395, 100]),
     ("(map.zoom(20), map.zoom(180), [circle(), map.middle])", [[220, 90], {"lon": 0, "lat": 0}]),
     # the land is that of the view

@@ -1,4 +1,5 @@
 """Parts of tests/page about the map of a log: the land, the labels, and the aircraft that is selected."""
+import functools
 import json
 import math
 from typing import List, Tuple
@@ -11,20 +12,12 @@ from using import changed, clicked, example_page, heard, value_of
 # Places, off the lines of the grid, and whether they are on land: inside countries, in seas, and in a sea within the
 # land.
 PLACES = (
-    ("France", 2.5, 46.6, True),
-    ("Kansas", -98.4, 38.6, True),
-    ("Australia", 134.3, -24.2, True),
-    ("Chukotka, east of 180 degrees", -178.3, 67.6, True),
-    ("Russia, on the Black Sea", 40.2, 44.6, True),
-    ("Atlantic", -33.3, 43.7, False),
-    ("Bay of Biscay", -6.3, 45.6, False),
-    ("Pacific", -153.2, 12.4, False),
-    ("Caspian Sea", 50.7, 41.4, False),
-    ("Congo, north of the equator", 26.3, 1.4, True),
-    ("Congo, south of the equator", 21.4, -1.7, True),
-    ("Antarctica", 63.3, -76.4, True),
-    ("Antarctica, near the pole", 140.5, -85.3, True),
-    ("Arctic", 7.3, 87.3, False),
+    ("France", 2.5, 46.6, True), ("Kansas", -98.4, 38.6, True), ("Australia", 134.3, -24.2, True),
+    ("Chukotka, east of 180 degrees", -178.3, 67.6, True), ("Russia, on the Black Sea", 40.2, 44.6, True),
+    ("Atlantic", -33.3, 43.7, False), ("Bay of Biscay", -6.3, 45.6, False), ("Pacific", -153.2, 12.4, False),
+    ("Caspian Sea", 50.7, 41.4, False), ("Congo, north of the equator", 26.3, 1.4, True),
+    ("Congo, south of the equator", 21.4, -1.7, True), ("Antarctica", 63.3, -76.4, True),
+    ("Antarctica, near the pole", 140.5, -85.3, True), ("Arctic", 7.3, 87.3, False),
 )
 
 # A copy of the map, to be read.
@@ -299,9 +292,14 @@ IN_COLOR = f"(() => {{ squitterLog.map.draw(); const pen = {PEN}; return " + """
   const wanted = [1, 3, 5].map((at) => parseInt(color.slice(at, at + 2), 16));
   return points.map(([right, down]) => {
     const { data } = pen.getImageData(Math.floor(x + right), Math.floor(y + down), 1, 1);
-    return wanted.every((part, at) => Math.abs(data[at] - part) < 40);
+    return wanted.every((part, at) => Math.abs(data[at] - part) < 25);
   });
 } })()"""
+
+
+def in_color(browser: Chromium, index: int, lon: float, lat: float, points: List[Tuple[int, int]]) -> List[bool]:
+    """Whether points to the right of a place and below it have the colour of a track."""
+    return list(browser.evaluate(f"{IN_COLOR}({index}, {lon}, {lat}, {json.dumps(points)})"))
 
 
 def drawn_tracks(tries: Tries) -> str:
@@ -310,9 +308,7 @@ def drawn_tracks(tries: Tries) -> str:
     browser = tries.page("log")
     browser.evaluate(FOUR)
 
-    def colored(index: int, lon: float, lat: float, points: List[Tuple[int, int]]) -> List[bool]:
-        return list(browser.evaluate(f"{IN_COLOR}({index}, {lon}, {lat}, {json.dumps(points)})"))
-
+    colored = functools.partial(in_color, browser)
     for index, lat, is_ground in ((0, 1, False), (1, -1, True)):
         corner, middle = colored(index, 2, lat, [(3, 3), (1, 1)])
         expect(middle and corner == is_ground, index, "has a mark with", middle, corner)

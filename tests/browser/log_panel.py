@@ -10,6 +10,7 @@ from pathlib import Path
 from typing import Dict, Tuple
 
 from chromium import Chromium
+from log_map import in_color
 from logs import NEAR, PIECE_BYTES, USUAL, Settings, damaged, flights, hostile_logs, of_address, tracked
 from trying import AIR_EVEN, AIR_ODD, SITE, Tries, bytes_of, expect, first_difference
 from using import (changed, clicked, dropped, example_page, given_file, given_log, heard, heard_right, pressed, says,
@@ -469,21 +470,6 @@ PLANES = """Object.values(PROJECTIONS).map((one) => {
   return worst;
 })"""
 
-DRAWN = """((lon, lat) => {
-  squitterLog.map.draw();
-  const { x, y } = squitterLog.map.spot({ lon, lat }), canvas = document.getElementById("map");
-  const index = [...squitterLog.tracks.all.keys()].indexOf(squitterLog.map.address);
-  const color = getComputedStyle(canvas).getPropertyValue(`--track${Math.max(index, 0)}`).trim().slice(1);
-  const wanted = [0, 2, 4].map((from) => parseInt(color.slice(from, from + 2), 16));
-  const copy = Object.assign(document.createElement("canvas"), { width: canvas.width, height: canvas.height });
-  const pen = copy.getContext("2d", { willReadFrequently: true });
-  pen.drawImage(canvas, 0, 0);
-  const pixels = [...pen.getImageData(Math.round(x) - 2, Math.round(y) - 2, 5, 5).data];
-  const isTrack = (at) => pixels[at + 3] > 60 && wanted.every((part, one) => Math.abs(pixels[at + one] - part) < 25);
-  const isSeen = x > 0 && y > 0 && x < canvas.clientWidth && y < canvas.clientHeight;
-  return isSeen && pixels.some((part, at) => at % 4 === 0 && isTrack(at));
-})"""
-
 
 def maps(tries: Tries) -> str:
     """Tracks near a pole are shown around it, by themselves or as it is chosen; places are where they are drawn."""
@@ -501,7 +487,8 @@ def maps(tries: Tries) -> str:
         )
         browser.evaluate(f"squitterLog.map.fit(0x{address})")
         for lon, lat in sorted(spots)[:1]:
-            expect(browser.evaluate(f"{DRAWN}({lon}, {lat})"), address, lon, lat, "is not drawn")
+            around = [(right, down) for right in range(-2, 3) for down in range(-2, 3)]
+            expect(any(in_color(browser, 0, lon, lat, around)), address, lon, lat, "is not drawn")
             count += 1
     clicked(browser, "#log-example")
     heard(browser)

@@ -99,14 +99,8 @@ def contrast(tries: Tries) -> str:
     expect(len(themes) == 2, "there are", len(themes), "themes")
     for theme in themes:
         pairs = [
-            ("ink", "ground", 4.5),
-            ("ink", "field", 4.5),
-            ("dim", "ground", 4.5),
-            ("dim", "field", 4.5),
-            ("wrong", "field", 4.5),
-            ("wrong", "ground", 4.5),
-            ("accent", "ground", 4.5),
-            *(("ink", f"tint{n}", 4.5) for n in range(8)),
+            *((name, below, 4.5) for name in ("ink", "dim", "wrong") for below in ("ground", "field")),
+            ("accent", "ground", 4.5), *(("ink", f"tint{n}", 4.5) for n in range(8)),
             *((name, below, 4.5) for name in ("ink", "dim") for below in ("sea", "land")),
             *((f"track{n}", below, 3) for n in range(6) for below in ("ground", "sea", "land")),
             *((name, below, 3) for name in ("accent", "wrong") for below in ("sea", "land")),
