@@ -6,6 +6,9 @@
 /** The number of results that show the unit of their timestamps. */
 const WATCHED = 1 << 14;
 
+/** Returns whether a result has a position. @param {number} what */
+const isPlace = (what) => what === What.FIX || what === What.FOLLOWED;
+
 /** The results of a log so far, and those that pass the filter. */
 class LogAnswers {
   /** @param {Library} library */
@@ -34,9 +37,9 @@ class LogAnswers {
     this.count += answers.numbers.length;
     const { whats, codes } = answers;
     for (let at = 0; at < whats.length; at++) {
-      if (whats[at] === 1 || whats[at] === 2) this.places++;
-      if (whats[at] === 6) this.withoutSite++;
-      if (whats[at] !== 0) continue;
+      if (isPlace(whats[at])) this.places++;
+      if (whats[at] === What.WITHOUT_SITE) this.withoutSite++;
+      if (whats[at]) continue;
       this.refused++;
       if (codes[at] === Code.BAD_MOMENT) this.withoutTime++;
     }
@@ -46,7 +49,7 @@ class LogAnswers {
 
   /** Starts the clock at the first moment. @param {Answers} answers */
   startClock({ whats, moments }) {
-    const first = whats.findIndex((what) => what !== 0);
+    const first = whats.findIndex(Boolean);
     if (first < 0) return;
     this.isTimed = true;
     this.clock = new LogClock(moments[first]);
@@ -108,13 +111,12 @@ class LogAnswers {
   /** Returns the cells of a result. @param {number} index @returns {string[]} */
   row(index) {
     const [chunk, at] = this.find(index), what = chunk.whats[at], number = String(chunk.numbers[at]);
-    if (what === 0) {
+    if (!what) {
       const words = this.library.faultText(chunk.codes[at], chunk.firsts[at]);
-      return [number, "", `refused: ${words}`, "", "", "", ""];
+      return [number, "", `${HEARD[what]}: ${words}`, "", "", "", ""];
     }
-    const isPlace = what === 1 || what === 2;
     const heard = what === What.SPLIT ? `${HEARD[what]} ${chunk.evens[at]} ${chunk.odds[at]}` : HEARD[what];
-    const place = isPlace ? [chunk.lats[at].toFixed(7), chunk.lons[at].toFixed(7)] : ["", ""];
+    const place = isPlace(what) ? [chunk.lats[at].toFixed(7), chunk.lons[at].toFixed(7)] : ["", ""];
     const address = hexadecimal(chunk.addresses[at], 6), time = this.clock.text(chunk.moments[at]);
     return [number, time, heard, address, ...place, feetText(chunk.feet[at])];
   }

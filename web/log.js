@@ -222,7 +222,7 @@ class LogPanel {
   setFilter() {
     const what = byId("filter-what").value, text = byId("filter-address").value.trim();
     const address = /^[0-9a-f]{1,6}$/i.test(text) ? parseInt(text, 16) : -2;
-    const isWanted = (one) => what === "" || (what === "places" ? one === 1 || one === 2 : one === Number(what));
+    const isWanted = (one) => what === "" || (what === "places" ? isPlace(one) : one === Number(what));
     this.answers.filter((one, from) => isWanted(one) && (text === "" || from === address));
     this.at = 0;
     this.showRows();

@@ -99,7 +99,7 @@ class Tracks {
     const halves = new Uint32Array(moments.buffer);
     this.change();
     for (let at = 0; at < whats.length; at++) {
-      if (whats[at] !== 1 && whats[at] !== 2) continue;
+      if (!isPlace(whats[at])) continue;
       const moment = halves[2 * at] + 2 ** 32 * halves[2 * at + 1];
       this.addPlace(addresses[at], lons[at], lats[at], moment, numbers[at], kinds[at]);
     }

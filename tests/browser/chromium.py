@@ -19,7 +19,7 @@ def installed() -> Optional[str]:
 
 
 class Chromium:
-    """A browser with one page. `problems` has what its console said of errors."""
+    """A browser with one page. `problems` has what its console said of errors, on all pages that were opened."""
 
     def __init__(self, *flags: str) -> None:
         self.folder = tempfile.mkdtemp()
@@ -28,25 +28,12 @@ class Chromium:
         self.rest = b""
         theirs_in, self.to = (fcntl.fcntl(end, fcntl.F_DUPFD, 20) for end in os.pipe())
         self.back, theirs_out = (fcntl.fcntl(end, fcntl.F_DUPFD, 20) for end in os.pipe())
-        command = [
-            str(installed()),
-            "--headless=new",
-            "--no-sandbox",
-            "--disable-gpu",
-            "--no-first-run",
-            "--disable-dev-shm-usage",
-            "--remote-debugging-pipe",
-            f"--user-data-dir={self.folder}",
-            *flags,
-            "about:blank",
-        ]
-        self.process = subprocess.Popen(
-            ["bash", "-c", f'exec "$@" 3<&{theirs_in} 4>&{theirs_out}', "-", *command],
-            pass_fds=(theirs_in, theirs_out),
-            stdin=subprocess.DEVNULL,
-            stdout=subprocess.DEVNULL,
-            stderr=subprocess.DEVNULL,
-        )
+        command = [str(installed()), "--headless=new", "--no-sandbox", "--disable-gpu", "--no-first-run",
+                   "--disable-dev-shm-usage", "--remote-debugging-pipe", f"--user-data-dir={self.folder}", *flags,
+                   "about:blank"]
+        self.process = subprocess.Popen(["bash", "-c", f'exec "$@" 3<&{theirs_in} 4>&{theirs_out}', "-", *command],
+                                        pass_fds=(theirs_in, theirs_out), stdin=subprocess.DEVNULL,
+                                        stdout=subprocess.DEVNULL, stderr=subprocess.DEVNULL)
         os.close(theirs_in)
         os.close(theirs_out)
         self.session: Optional[str] = None
@@ -109,7 +96,6 @@ class Chromium:
 
     def open(self, address: str) -> None:
         """Opens a page, and waits until it has started."""
-        self.problems = []
         self.call("Page.navigate", url="about:blank")
         self.call("Page.navigate", url=address)
         self.wait("document.documentElement.dataset.ready === 'yes' || !document.getElementById('notice').hidden")
@@ -148,7 +134,7 @@ class Chromium:
         node = self.call("DOM.querySelector", nodeId=root, selector=selector)["nodeId"]
         self.call("DOM.setFileInputFiles", nodeId=node, files=[path])
 
-    def look(self, width: int, height: int, dark: bool) -> None:
+    def look(self, width: int = 1100, height: int = 900, dark: bool = False) -> None:
         """The size of the window, and whether the reader likes it dark."""
         self.call("Emulation.setDeviceMetricsOverride", width=width, height=height, deviceScaleFactor=1, mobile=False)
         feature = {"name": "prefers-color-scheme", "value": "dark" if dark else "light"}

@@ -4,7 +4,7 @@ from typing import Any, Dict, Iterator, List, Tuple
 
 from chromium import Chromium
 from trying import Tries, expect
-from using import clicked, heard, silent, typed
+from using import clicked, example_page, pressed, typed
 
 # Returns [what, selector, colour, background, least, contrast] for each text and each outline that is shown. The
 # contrast is that of WCAG 2.1, from 1 to 21. Large text has 24 px, or 18.66 px in bold type. Radio buttons, sliders,
@@ -109,10 +109,8 @@ def views(browser: Chromium) -> Iterator[Tuple[str, str]]:
 def seen_contrast(tries: Tries) -> str:
     """Computed colours of all panels, in light and dark, wide and narrow: text has a contrast of 4.5 to 1 at least, and
     large text and outlines of controls 3 to 1 (WCAG 2.1). What fails is listed by its selector and its contrast."""
-    browser = tries.page("log")
-    clicked(browser, "#log-example")
-    heard(browser)
-    pressed_once(browser)
+    browser = example_page(tries)
+    pressed(browser, "Tab")  # so that a browser shows the focus that a script moves
     count, failing, kinds = 0, [], set()
     for width in (1100, 390):
         for dark in (False, True):
@@ -127,11 +125,4 @@ def seen_contrast(tries: Tries) -> str:
     expect(not failing, *sorted(set(failing)))
     wanted = {"text", "value", "placeholder", "::before", "border", "focus", "tab", "edge", "mark"}
     expect(kinds == wanted, "compared:", json.dumps(sorted(kinds)))
-    silent(browser)
     return f"{count} colours"
-
-
-def pressed_once(browser: Chromium) -> None:
-    """Presses a key, so that a browser shows the focus that a script moves."""
-    for kind in ("keyDown", "keyUp"):
-        browser.call("Input.dispatchKeyEvent", type=kind, key="Tab", code="Tab", windowsVirtualKeyCode=9)

@@ -4,7 +4,7 @@ import math
 
 from chromium import Chromium
 from trying import Tries, expect
-from using import clicked, given_log, heard, pressed, shown, silent, typed
+from using import changed, clicked, dropped, given_log, heard, pressed, says, shown, typed
 from values import Rows, compared
 
 # The map of the panel with tracks of its own, in equal degrees, 100 points for a degree around 0 degrees.
@@ -72,17 +72,14 @@ MAP_ROWS: Rows = (
     ("(map.took = 1e9, look(), map.moved = false, map.follow(), map.center.x)", 0),
     # a finger moves the map, and two zoom it; a click chooses
     ("(look(), pointer('pointerdown', 1, 100, 50), pointer('pointermove', 1, 130, 40), pointer('pointerup', 1, 130, "
-     "40), "
-     "pointer('pointermove', 1, 200, 200), [map.center.x, map.center.y, map.chosen])", [-0.3, -0.1, None]),
+     "40), pointer('pointermove', 1, 200, 200), [map.center.x, map.center.y, map.chosen])", [-0.3, -0.1, None]),
     ("(look(), pointer('pointerdown', 1, 100, 50), pointer('pointermove', 1, 130, 40), pointer('pointermove', 1, 140, "
-     "40), "
-     "pointer('pointerup', 1, 140, 40), [map.center.x, map.center.y])", [-0.4, -0.1]),
+     "40), pointer('pointerup', 1, 140, 40), [map.center.x, map.center.y])", [-0.4, -0.1]),
     ("(look(), pointer('pointerdown', 1, width / 2 - 50, 80), pointer('pointerdown', 2, width / 2 + 50, 80), "
      "pointer('pointermove', 2, width / 2 + 150, 80), pointer('pointermove', 1, width / 2 - 50, 80), "
      "pointer('pointerup', 1, 0, 0), pointer('pointerup', 2, 0, 0), map.scale)", 200),
     ("(look(), pointer('pointerdown', 1, 10, 10), pointer('pointercancel', 1, 10, 10), pointer('pointermove', 1, 20, "
-     "20), "
-     "map.center.x)", 0),
+     "20), map.center.x)", 0),
     *((f"(look(), (({{ x, y }}) => {{ pointer('pointerdown', 1, x, y); pointer('pointerup', 1, x + {right}, y); }})("
        "map.spot({ lon: 1, lat: 0.5 })), map.chosen?.line ?? null)", wanted)
       for right, wanted in ((3, 1), (4.1, None))),
@@ -94,9 +91,8 @@ MAP_ROWS: Rows = (
        "cancelable: true })), map.scale)", wanted) for delta, wanted in (
            (400, 100 / math.e), (-400, 100 * math.e))),
     ("(look(), map.canvas.dispatchEvent(new WheelEvent('wheel', { deltaY: -800, clientX: "
-     "map.canvas.getBoundingClientRect()"
-     ".left + width / 2 + 100, clientY: map.canvas.getBoundingClientRect().top + height / 2, cancelable: true })), "
-     "[map.center.x > 0.8, Math.abs(map.center.y) < 0.01])", [True, True]),
+     "map.canvas.getBoundingClientRect().left + width / 2 + 100, clientY: map.canvas.getBoundingClientRect().top + "
+     "height / 2, cancelable: true })), [map.center.x > 0.8, Math.abs(map.center.y) < 0.01])", [True, True]),
     ("(look(), map.view({ x: 30, y: 10 }))",
      "{ left: -(width / 2 + 30) / 100, right: (width / 2 + 30) / 100, low: -(height / 2 + 10) / 100, "
      "high: (height / 2 + 10) / 100 }"),
@@ -122,7 +118,6 @@ def map_moved(tries: Tries) -> str:
     """The map is fitted, zoomed, moved and clicked on; it is drawn again once for several changes, and shows no more
     than it has to."""
     browser = tries.page("log")
-    browser.look(1100, 900, False)
     for script, wanted in MAP_ROWS:
         wanted = browser.evaluate(f"(() => {{ {MOVED}; return {wanted} }})()") if isinstance(wanted, str) and \
             wanted.startswith("{") else wanted
@@ -131,7 +126,7 @@ def map_moved(tries: Tries) -> str:
         times = [browser.evaluate(f"{REDRAWN}(() => {change})") for _ in range(2)]
         expect(times == [1, 1], change, "draws", times)
     drawn = browser.evaluate("squitterLog.map.drawn")
-    browser.look(1100, 900, True)
+    browser.look(dark=True)
     browser.wait(f"squitterLog.map.drawn > {drawn}", 5)
     ratios = browser.evaluate("(() => { const { map } = squitterLog, found = []; for (const ratio of [2, 1]) { "
                               "Object.defineProperty(window, 'devicePixelRatio', { value: ratio, configurable: true "
@@ -139,24 +134,18 @@ def map_moved(tries: Tries) -> str:
                               "map.draw(); found.push(map.canvas.width / map.canvas.clientWidth); } return found })()")
     expect(ratios == [2, 1], "pixels for a point:", ratios)
     said = browser.evaluate("(() => { const { map } = squitterLog, { say } = map.told, found = []; map.told.say = "
-                            "(text) "
-                            "=> found.push(text); map.say('a'); map.say('a'); map.say('b'); map.told.say = say; return "
-                            "found })()")
+                            "(text) => found.push(text); map.say('a'); map.say('a'); map.say('b'); map.told.say = say; "
+                            "return found })()")
     expect(said == ["a", "b"], "the map says", said)
-    browser.look(1100, 900, False)
+    browser.look()
     red = browser.evaluate("(() => { const { map } = squitterLog, { width, height } = map.canvas, copy = Object.assign("
                            "document.createElement('canvas'), { width, height }).getContext('2d', { "
-                           "willReadFrequently: "
-                           "true }), pen = map.canvas.getContext('2d'); map.scale = 3000; pen.fillStyle = '#f00'; "
-                           "pen.fillRect(0, 0, width, height); map.draw(); copy.drawImage(map.canvas, 0, 0); const { "
-                           "data } "
-                           "= copy.getImageData(0, 0, width, height); let count = 0; for (let at = 0; at < "
-                           "data.length; "
-                           "at += 4) count += data[at] === 255 && data[at + 1] === 0 && data[at + 3] === 255; return "
-                           "count "
-                           "})()")
+                           "willReadFrequently: true }), pen = map.canvas.getContext('2d'); map.scale = 3000; "
+                           "pen.fillStyle = '#f00'; pen.fillRect(0, 0, width, height); map.draw(); "
+                           "copy.drawImage(map.canvas, 0, 0); const { data } = copy.getImageData(0, 0, width, height); "
+                           "let count = 0; for (let at = 0; at < data.length; at += 4) count += data[at] === 255 && "
+                           "data[at + 1] === 0 && data[at + 3] === 255; return count })()")
     expect(red == 0, red, "points of the drawing before are left")
-    silent(browser)
     return f"{len(MAP_ROWS)} values"
 
 
@@ -189,8 +178,7 @@ PLAY_ROWS: Rows = (
     ("(byId('play-speed').value = '10', playback.play(), playback.before = 100, playback.tick(110), playback.moment)",
      1100),
     ("(playback.play(), playback.before = 100, playback.tick(1000), [...shown().slice(0, 3), button(), "
-     "playback.playing, "
-     "asked.length])", [5000, None, "1000", "Play", False, 1]),
+     "playback.playing, asked.length])", [5000, None, "1000", "Play", False, 1]),
     ("(playback.play(), playback.pause(), playback.before = 100, playback.tick(110), [playback.moment, asked.length])",
      [1000, 1]),
     ("(playback.play(), slid('500'), [playback.playing, button()])", [False, "Play"]),
@@ -205,8 +193,7 @@ PLAY_ROWS: Rows = (
      "dated.addPlace(1, 0, 0, first + 1500, 1, 1); playback.take(dated, new LogClock(BigInt(first))); return "
      "shown().slice(2, 4) })()", ["1000", "2023-11-14 22:13:21 UTC"]),
     ("(() => { let count = 0; const { redraw } = map; map.redraw = () => count++; playback.go(3000); delete "
-     "map.redraw; "
-     "return count })()", 1),
+     "map.redraw; return count })()", 1),
 )
 
 
@@ -214,7 +201,6 @@ def replayed(tries: Tries) -> str:
     """What a replay shows at each moment, by the slider, by the clock and at its ends."""
     browser = tries.page("log")
     count = compared(browser, PLAY_ROWS, PLAYED)
-    silent(browser)
     return f"{count} values"
 
 
@@ -239,15 +225,14 @@ SPOT_ROWS: Rows = (
     *((f"(map.zoom(20), map.show({{ lon: 18 + {east}, lat: 9 + {north} }}), circle())", wanted)
       for east, north, wanted in (
           (18.9, 0, [389, 100]), (19, 0, [200, 100]), (-18.9, 0, [11, 100]), (-19, 0, [200, 100]),
-                                  (0, 8.9, [200, 11]), (0, 9, [200, 100]), (0, -8.9, [200, 189]), (0, -9, [200, 100]))),
+          (0, 8.9, [200, 11]), (0, 9, [200, 100]), (0, -8.9, [200, 189]), (0, -9, [200, 100]))),
     ("(map.zoom(20), map.isHeld = true, map.show({ lon: 37.5, lat: 9 }), circle())", [395, 100]),
     ("(map.zoom(20), map.zoom(180), [circle(), map.middle])", [[220, 90], {"lon": 0, "lat": 0}]),
     # the land is that of the view
     ("(() => { const whole = land(); map.zoom(20); const near = land(); map.show({ lon: 60, lat: 9 }); const other = "
-     "land();"
-     "map.show({ lon: 60, lat: 40 }); const north = land(); map.show({ lon: 61, lat: 41 }); return [whole === near, "
-     "near === "
-     "other, other === north, north === land(), near.length > 0] })()", [False, False, False, True, True]),
+     "land();map.show({ lon: 60, lat: 40 }); const north = land(); map.show({ lon: 61, lat: 41 }); return [whole === "
+     "near, near === other, other === north, north === land(), near.length > 0] "
+     "})()", [False, False, False, True, True]),
     ("(() => { map.zoom(20); const near = land(); map.zoom(10); return near === land() })()", False),
     # a step of the keys is a degree on the whole Earth and ten with Shift; nearer it is as many parts of the view
     *((f"key({words})", [[lat, lon], True]) for words, lat, lon in (
@@ -273,7 +258,6 @@ SPOT_ROWS: Rows = (
 def spot_moved(tries: Tries) -> str:
     """The small map: where the position is drawn, and where it goes by keys and by the pointer."""
     browser = tries.page("send")
-    browser.look(1100, 900, False)
     count = compared(browser, SPOT_ROWS, SPOT)
     browser = tries.page("send")
     typed(browser, send_lat="12.5", send_lon="-20.25")
@@ -281,9 +265,7 @@ def spot_moved(tries: Tries) -> str:
                      "field.dispatchEvent(new Event('change')) })()")
     pressed_at = browser.evaluate("(() => { const map = document.querySelector('#send-map .spot'); map.dispatchEvent("
                                   "new KeyboardEvent('keydown', { key: 'ArrowUp', shiftKey: true })); return ['lat', "
-                                  "'lon']"
-                                  ".map((name) => document.getElementById(`send-${name}`).value) })()")
-    silent(browser)
+                                  "'lon'].map((name) => document.getElementById(`send-${name}`).value) })()")
     expect(pressed_at == ["12.5555556", "-20.2500000"], pressed_at)
     return f"{count} values"
 
@@ -304,8 +286,7 @@ SETTING_ROWS: Rows = (
     ("[set('1', '1', '52', ''), set('1', '1', '', '4'), set('1', '1', 'x', '4')].map((text) => text.split(' ')[0])",
      ["longitude", "latitude", "latitude"]),
     ("[set('1', '1', '90', '180'), set('1', '1', '90.1', '0'), set('1', '1', '0', '180.1')].map((one) => one.length > "
-     "3 ? "
-     "'refused' : one[2])", ["90.0000000 180.0000000", "refused", "refused"]),
+     "3 ? 'refused' : one[2])", ["90.0000000 180.0000000", "refused", "refused"]),
 )
 
 SUMMARY = """const told = (answers, feed) => { Object.assign(squitterLog, { name: "a.log", seconds: 1.25,
@@ -351,8 +332,8 @@ def log_words(tries: Tries) -> str:
     filters(browser)
     addresses(browser)
     while_decoding(browser)
-    left_alone(browser, tries)
-    silent(browser)
+    left_alone(browser)
+    drops(browser)
     return f"{count} values"
 
 
@@ -387,28 +368,24 @@ def pages_of_table(browser: Chromium, tries: Tries) -> None:
 
 def filters(browser: Chromium) -> None:
     """The results that a filter shows: by kind, and by an address in hexadecimal."""
+    left = "squitterLog.answers.left.length"
     clicked(browser, "#log-example")
     heard(browser)
     counts = browser.evaluate("squitterLog.answers.chunks.flatMap(({ whats }) => [...whats]).reduce((sums, what) => "
                               "(sums[what]++, sums), new Array(8).fill(0))")
-    rows = [("", sum(counts)), ("places", counts[1] + counts[2]), *((str(at), counts[at]) for at in range(8))]
-    for what, wanted in rows:
-        typed(browser, filter_what=what)
-        left = browser.evaluate("squitterLog.answers.left.length")
-        expect(left == wanted, what, "shows", left, "and not", wanted)
-    typed(browser, filter_what="")
     of_one = browser.evaluate("squitterLog.answers.chunks.flatMap(({ addresses, whats }) => "
-                              "[...addresses].filter((one, at) "
-                              "=> whats[at] && one === 0x484004)).length")
-    for text, wanted in (("484004", of_one), (" 484004 ", of_one), ("48400", 0), ("x", 0), ("", sum(counts))):
-        typed(browser, filter_address=text)
-        left = browser.evaluate("squitterLog.answers.left.length")
-        expect(left == wanted, repr(text), "shows", left, "and not", wanted)
+                              "[...addresses].filter((one, at) => whats[at] && one === 0x484004)).length")
+    rows = [("filter_what", "", sum(counts)), ("filter_what", "places", counts[1] + counts[2]),
+            *(("filter_what", str(at), counts[at]) for at in range(8)), ("filter_what", "", sum(counts)),
+            *(("filter_address", text, of_one) for text in ("484004", " 484004 ")),
+            *(("filter_address", text, 0) for text in ("48400", "x")), ("filter_address", "", sum(counts))]
+    for name, text, wanted in rows:
+        typed(browser, **{name: text})
+        expect(browser.evaluate(left) == wanted, name, repr(text), "shows", browser.evaluate(left), "and not", wanted)
     typed(browser, filter_what="places")
     clicked(browser, "#log-example")
     heard(browser)
-    left = browser.evaluate("squitterLog.answers.left.length")
-    expect(left == counts[1] + counts[2], "another log shows", left, "positions")
+    expect(browser.evaluate(left) == counts[1] + counts[2], "another log shows", browser.evaluate(left), "positions")
     typed(browser, filter_what="")
 
 
@@ -416,9 +393,7 @@ def addresses(browser: Chromium) -> None:
     """The aircraft that can be chosen are sorted, and are 5000 at most."""
     names = "[...byId('map-address').options].map((one) => one.value)"
     listed = browser.evaluate(names)
-    expect(listed == ["", "3C0005", "484004", "484804", "7C0003",
-                      "A00002"][:1] + sorted(listed[1:]) and len(listed) == 6,
-           listed)
+    expect(listed[:1] == [""] and listed[1:] == sorted(listed[1:]) and len(listed) == 6, listed)
     for count in (5000, 5001):
         listed = browser.evaluate("(() => { const tracks = squitterLog.tracks = new Tracks(0); for (let at = 0; at < "
                                   f"{count}; at++) tracks.addPlace(({count} - at) * 16, 0, 0, 1, 1, 1); "
@@ -470,9 +445,9 @@ def while_decoding(browser: Chromium) -> None:
     expect(failed.startswith("a.log: not decoded to its end (why). 5 lines"), failed)
 
 
-def left_alone(browser: Chromium, tries: Tries) -> None:
+def left_alone(browser: Chromium) -> None:
     """A map that the reader has moved stays as its log ends; a cancelled log says so; one that cannot be decoded
-    again says that it was not saved; a dropped text is left to its field."""
+    again says that it was not saved."""
     browser.evaluate("squitterLog.hear(new Blob(['1 x\\n'.repeat(300_000)]), 'long')")
     clicked(browser, "#log-example")
     browser.evaluate("(() => { const { map } = squitterLog; map.center = { x: 1, y: 2 }; map.moved = true })()")
@@ -483,41 +458,31 @@ def left_alone(browser: Chromium, tries: Tries) -> None:
     browser.evaluate("squitterLog.task.file = new Blob(['BZh', 'x'.repeat(100)])")
     clicked(browser, "#log-csv")
     browser.wait("document.getElementById('log-state').textContent.includes('not saved')", 10)
-    expect("(unpack it first" in shown(browser, "#log-state"), shown(browser, "#log-state"))
-    drops = browser.evaluate("['dragover', 'drop', 'dragleave'].map((name) => { const dataTransfer = new "
-                             "DataTransfer(); "
-                             "dataTransfer.setData('text/plain', 'x'); const event = new DragEvent(name, { "
-                             "dataTransfer, "
-                             "bubbles: true, cancelable: true }); byId('log-paste').dispatchEvent(event); "
-                             "return event.defaultPrevented })")
-    expect(drops == [False] * 3, "a text that is dropped is", drops)
-    over = browser.evaluate("['dragover', 'dragleave', 'dragover', 'drop'].map((name) => { const dataTransfer = "
-                            "new DataTransfer(); dataTransfer.items.add(new File(['1 x'], 'one.log')); byId('tab-send')"
-                            ".dispatchEvent(new DragEvent(name, { dataTransfer, bubbles: true, cancelable: true })); "
-                            "return "
-                            "byId('log-drop').classList.contains('over') })")
+    says(browser, "(unpack it first")
+    browser.evaluate("void (squitterLog.hear(exampleLog(), 'cut', { where: ['52.31', '4.76'] }), "
+                     "squitterLog.end('cancelled'))")
+    says(browser, "cut: cancelled. 0 lines")
+    expect(browser.evaluate("[byId('log-cancel').disabled, byId('log-csv').disabled]") == [True, True], "cancelled")
+
+
+def drops(browser: Chromium) -> None:
+    """A dropped text is left to its field; a file is heard wherever it is dropped, and of several the first."""
+    taken = [one for one, _ in dropped(browser, "log-paste", ("dragover", "drop", "dragleave"), "x")]
+    expect(taken == [False] * 3, "a text that is dropped is", taken)
+    over = [one for _, one in dropped(browser, "tab-send", ("dragover", "dragleave", "dragover", "drop"), "1 x",
+                                      "one.log")]
     expect(over == [True, False, True, False], "the place to drop a file is marked:", over)
     clicked(browser, "#tab-send")
-    browser.evaluate("(() => { const dataTransfer = new DataTransfer(); dataTransfer.items.add(new File(['1 x'], "
-                     "'two.log'));"
-                     "document.body.dispatchEvent(new DragEvent('drop', { dataTransfer, bubbles: true, cancelable: "
-                     "true }))"
-                     "})()")
+    dropped(browser, "", ["drop"], "1 x", "two.log")
     heard(browser)
     expect(browser.evaluate("squitterLog.name === 'two.log' && !byId('panel-log').hidden"), "a file dropped elsewhere")
-    browser.evaluate("(() => { const dataTransfer = new DataTransfer(); for (const name of ['a', 'b', 'c']) "
-                     "dataTransfer.items.add(new File(['1 x\\n'], name)); document.body.dispatchEvent("
-                     "new DragEvent('drop', { dataTransfer, bubbles: true, cancelable: true })) })()")
+    dropped(browser, "", ["drop"], "1 x\n", "a", "b", "c")
     heard(browser)
     state = shown(browser, "#log-state")
     expect(state.startswith("a, the first of 3 files: decoded. 1 line, 0 positions, 1 refused"), state)
-    browser.evaluate("(() => { squitterLog.name = ''; byId('log-paste').value = '  '; byId('log-paste').dispatchEvent("
-                     "new Event('change')) })()")
+    browser.evaluate("squitterLog.name = ''")
+    changed(browser, log_paste="  ")
     expect(browser.evaluate("squitterLog.name") == "", "spaces are decoded")
-    browser.evaluate("void (squitterLog.hear(exampleLog(), 'cut', { where: ['52.31', '4.76'] }), "
-                     "squitterLog.end('cancelled'))")
-    expect("cut: cancelled. 0 lines" in shown(browser, "#log-state"), shown(browser, "#log-state"))
-    expect(browser.evaluate("[byId('log-cancel').disabled, byId('log-csv').disabled]") == [True, True], "cancelled")
 
 
 HELPERS: Rows = (
@@ -534,8 +499,7 @@ HELPERS: Rows = (
     ("refusal('Refused', new Error('x')).outerHTML", '<p class="refusal"><strong>Refused: </strong>x</p>'),
     ("((one) => `${one.lat} ${one.lon}`)(positionOf(squitterLog.library, ' 1 ', ' -2 '))", "1.0000000 -2.0000000"),
     ("[['x', '1'], ['1', 'x']].map((words) => { try { positionOf(squitterLog.library, ...words) } catch (error) { "
-     "return "
-     "error.message.split(' ')[0] } })", ["latitude", "longitude"]),
+     "return error.message.split(' ')[0] } })", ["latitude", "longitude"]),
     ("moduleBytes() === moduleBytes()", True),
     ("['frame', 'place', 'send'].map((name) => byId(`${name}-answer`).children.length > 0)", [True] * 3),
     ("byId('version').textContent === squitterLog.library.version() && byId('version').textContent.length > 4", True),
@@ -557,7 +521,8 @@ def tabs(tries: Tries) -> str:
         expect(got == wanted and address == f"#{names[index]}", why, got, address)
 
     is_open(2, "by the address")
-    keys = (("ArrowRight", 3), ("ArrowRight", 0), ("ArrowLeft", 3), ("ArrowLeft", 2), ("Home", 0), ("End", 3))
+    keys = (("ArrowRight", 3), ("ArrowRight", 0), ("ArrowLeft", 3), ("ArrowLeft", 2), ("Home", 0),
+            ("ArrowRight", 1), ("ArrowRight", 2), ("End", 3))
     for key, index in keys:
         browser.evaluate("document.querySelector('[aria-selected=true]').focus()")
         pressed(browser, key)
@@ -574,16 +539,12 @@ def tabs(tries: Tries) -> str:
     clicked(browser, "#tab-place")
     expect(browser.evaluate("document.activeElement === document.body"), "a click moves the focus")
     submitted = browser.evaluate("['frame-form', 'place-form', 'send-form', 'log-form', 'filter-form'].map((id) => { "
-                                 "const "
-                                 "event = new Event('submit', { cancelable: true }); byId(id).dispatchEvent(event); "
-                                 "return "
-                                 "event.defaultPrevented })")
+                                 "const event = new Event('submit', { cancelable: true }); "
+                                 "byId(id).dispatchEvent(event); return event.defaultPrevented })")
     expect(submitted == [True] * 5, "forms are submitted:", submitted)
     resized = browser.evaluate("(() => { let count = 0; addEventListener('resize', () => count++); "
-                               "byId('tab-log').click();"
-                               "return count })()")
+                               "byId('tab-log').click();return count })()")
     expect(resized == 1, "the map of a tab that opens is not measured")
     browser = tries.page("elsewhere")
     is_open(0, "an address that names no tab")
-    silent(browser)
     return f"{count} texts"

@@ -4,10 +4,9 @@ import math
 from typing import Any, List
 
 from chromium import Chromium
-from trying import AIR_EVEN, AIR_ODD, Tries, expect
-from using import clicked, silent, typed
-from values import NEWER_GROUND, OLDER_GROUND, Rows, compared
-
+from trying import AIR_EVEN, AIR_ODD, GROUND_EVEN, GROUND_ODD, POLE_EVEN, POLE_ODD, Tries, expect
+from using import clicked, typed
+from values import METRES, STEPS, Rows, compared
 
 
 def zone_count(lat: float) -> int:
@@ -71,8 +70,7 @@ LINES: Rows = (
      [["moveTo", 200], ["lineTo", 201], ["lineTo", 210]]),
     # around the north pole what is south of the equator is not drawn, and the line goes on behind it
     ("(map.projection = PROJECTIONS.north, map.scale = 1, line([90, 10], [90, -10], [90, 20], [90, 30]).map(([name, "
-     "x]) "
-     "=> [name, x]))", [["moveTo", 280], ["moveTo", 270], ["lineTo", 260]]),
+     "x]) => [name, x]))", [["moveTo", 280], ["moveTo", 270], ["lineTo", 260]]),
     # a piece beyond one side is left out, and one at the border is drawn: it shows from -20 to 20 and -10 to 10
     *((f"(drawing().piece(piece([{lon}, {lat}])), pen.calls.length > 0)", wanted)
       for lon, lat, wanted in ((20, 0, True), (20.1, 0, False), (-20, 0, True), (-20.1, 0, False), (0, 10, True),
@@ -128,16 +126,14 @@ CHARTS: Rows = (
       ["ink", 2], [1, 2]]),
     # the selected track has a whole border, and its mark one that is full, also if it is dashed and silent
     ("(() => { place(1, 0, 0, 1, 1, 2); const one = chart(), ink = one.color('--ink'); map.address = 1; map.until = "
-     "5000;"
-     "one.drawTracks(pen, map.view({ x: 0, y: 0 }), one.marks()); return pen.calls.filter(([name]) => ['rect', 'fill', "
-     "'stroke'].includes(name)).slice(-8).map(([name, color, ...more]) => [name, color === ink ? 'ink' : color === "
-     "one.tracks[0] ? 0 : color, ...more]) })()",
+     "5000;one.drawTracks(pen, map.view({ x: 0, y: 0 }), one.marks()); return pen.calls.filter(([name]) => ['rect', "
+     "'fill', 'stroke'].includes(name)).slice(-8).map(([name, color, ...more]) => [name, color === ink ? 'ink' : color "
+     "=== one.tracks[0] ? 0 : color, ...more]) })()",
      [["stroke", "ink", 7, 0], ["stroke", 0, 4, 2], ["rect", 193, 93, 14, 14], ["fill", "ink"], ["stroke", "ink", 2, 0],
       ["fill", 0], ["rect", 195, 95, 10, 10], ["stroke", 0, 2, 0]]),
     ("(() => { const used = [], one = chart(); map.sprites.use = (...words) => used.push(words); one.drawNames([]); "
-     "return "
-     "used[0].map((word) => word === one.color('--ink') ? 'ink' : word === one.color('--ground') ? 'ground' : word) "
-     "})()",
+     "return used[0].map((word) => word === one.color('--ink') ? 'ink' : word === one.color('--ground') ? 'ground' : "
+     "word) })()",
      [1, "ink", "ground"]),
     *((f"(() => {{ {MANY.format(count)}; const one = chart(); one.drawTracks(pen, map.view({{ x: 0, y: 0 }}), []);"
        f"return {WIDTHS}[0] }})()", wide) for count, wide in ((100, 2), (101, 1))),
@@ -163,8 +159,7 @@ CHARTS: Rows = (
      "map.labels.map(({ text, font }) => [text, font.startsWith('bold')]))",
      [["000003", True], ["000001", False], ["000002", False]]),
     *((f"(map.measured = {{ width: 9000, height: 9000 }}, chart().drawNames(Array.from({{ length: {count} }}, (_, at) "
-       f"=> "
-       "({ address: at, x: 100 * (at % 50 + 1), y: 50 * Math.floor(at / 50 + 5) }))), map.labels.length)", wanted)
+       f"=> ({{ address: at, x: 100 * (at % 50 + 1), y: 50 * Math.floor(at / 50 + 5) }}))), map.labels.length)", wanted)
       for count, wanted in ((149, 149), (150, 150), (151, 150))),
 )
 
@@ -179,17 +174,16 @@ CHANGES = ("tracks.change()", "map.until = 5", "map.address = 7", "map.projectio
 def recorded(tries: Tries) -> str:
     """Tracks, seams, marks, labels and the grid, by the calls of a pen; what makes the map draw a layer again."""
     browser = tries.page("log")
-    browser.look(1100, 900, False)
     count = compared(browser, [*LINES, *CHARTS], SMALL_MAP)
     for change in CHANGES:
         script = f"[keysNow(), ({change}, keysNow())]"
         (land, lines), (new_land, new_lines) = browser.evaluate(f"(() => {{ {SMALL_MAP}; {KEYS}; return {script} }})()")
         expect(lines != new_lines and (land != new_land) == ("projection" in change), change, lines, new_lines)
     light = browser.evaluate(f"(() => {{ {SMALL_MAP}; {KEYS}; return keysNow() }})()")
-    browser.look(1100, 900, True)
+    browser.look(dark=True)
     dark = browser.evaluate(f"(() => {{ {SMALL_MAP}; {KEYS}; return keysNow() }})()")
     expect(light[0] != dark[0] and light[1].split(" ")[-1] != dark[1].split(" ")[-1], light, dark)
-    browser.look(1100, 900, False)
+    browser.look()
     count += compared(browser, (
         ("(chart().draw(), map.scale = 2500, chart().draw(), map.scale = 2500.1, chart().draw(), said)",
          ["equal degrees, lines every 10°", "equal degrees, lines every 0.05°",
@@ -197,7 +191,6 @@ def recorded(tries: Tries) -> str:
         ("(map.chosen = { lon: 1, lat: 2 }, chart().draw(), pen.calls.filter(([name, x]) => name === 'lineTo' && "
          "x === 196).length)", 1),
     ), f"{SMALL_MAP}; {KEYS}")
-    silent(browser)
     return f"{count + len(CHANGES) + 1} drawings"
 
 
@@ -267,14 +260,12 @@ SPRITED: Rows = (
     ("(sprites.draw(pen, [label('88')]), [colors(0), colors(1)])", [[True, True], [False, False]]),
     # the same text in two fonts has two pictures, and again none
     ("(sprites.draw(pen, [label('A'), label('A', 0, 0, bold), label('A')]), [sprites.slots.size, pen.calls.map((call) "
-     "=> "
-     "call[2])])", [2, [0, 72, 0]]),
+     "=> call[2])])", [2, [0, 72, 0]]),
     ("(sprites.draw(pen, [label('A')]), sprites.draw(pen, [label('A', 0, 0, bold)]), pen.calls.map((call) => call[2]))",
      [0, 72]),
     # 512 labels fit, and one more begins again
     ("(sprites.draw(pen, labels(0, 512)), [sprites.slots.size, (sprites.draw(pen, labels(0, 512)), "
-     "sprites.slots.size), "
-     "(sprites.draw(pen, labels(600, 1)), sprites.slots.size)])", [512, 512, 1]),
+     "sprites.slots.size), (sprites.draw(pen, labels(600, 1)), sprites.slots.size)])", [512, 512, 1]),
     ("(sprites.draw(pen, labels(0, 511)), sprites.draw(pen, labels(600, 1)), sprites.slots.size)", 512),
     ("(sprites.draw(pen, labels(0, 512)), sprites.draw(pen, [label('000001', 0, 0, bold)]), sprites.slots.size)", 1),
     # pictures that are there are not made again
@@ -295,9 +286,7 @@ SPRITED: Rows = (
 def kept_layers(tries: Tries) -> str:
     """A layer is drawn again when it has to be, and moved else; labels are drawn once, in their colours."""
     browser = tries.page("log")
-    browser.look(1100, 900, False)
     count = compared(browser, PAINTED, LAYERED) + compared(browser, SPRITED, SPRITES)
-    silent(browser)
     return f"{count} drawings"
 
 
@@ -360,8 +349,7 @@ LANDS: Rows = (
      [{"x": "20", "y": "10", "width": "360", "height": "180", "class": "way-sea"}, {"d": True, "class": "way-land"},
       {"d": True, "class": "way-coast"}]),
     ("((parts) => parts[1].getAttribute('d') !== parts[2].getAttribute('d'))(landPicture({ x: 200, y: 100, right: 1, "
-     "up: 1 },"
-     "{ left: -180, right: 180, low: -90, high: 90 }))", True),
+     "up: 1 },{ left: -180, right: 180, low: -90, high: 90 }))", True),
     ("picture({ x: 0, y: 0, right: 2, up: 2 }, { left: 10, right: 20, low: 40, high: 60 })[0]",
      {"x": "20", "y": "-120", "width": "20", "height": "40", "class": "way-sea"}),
     ("[[2500, 2501], [2501, 2500], [2500, 2500]].map(([right, up]) => picture({ x: 0, y: 0, right, up }, "
@@ -402,14 +390,12 @@ WAYS: Rows = (
     ("pictureLabels([], [{ x: 5, y: 30, text: 'A' }, { x: 8, y: 30, text: 'B' }, { x: 5, y: 11, text: 'C' }], 100, 100)"
      ".map((one) => [one.textContent, one.getAttribute('y')])", [["A", "28"]]),
     ("pictureLabels([{ x: 50, y: 50, text: '' }], [[34, 56], [32, 56], [46, 72], [46, 70]].map(([x, y], at) => ({ x, "
-     "y, "
-     "text: String(at) })), 100, 100).map((one) => one.textContent)", ["1", "2"]),
+     "y, text: String(at) })), 100, 100).map((one) => one.textContent)", ["1", "2"]),
     # one frame near a reference: the box of half a zone, the reference in the middle, and nine points a zone apart
     (f"((picture) => [shapes(picture, '.way-box'), shapes(picture, '.way-given'), shapes(picture, "
-     f"'.way-other').length, "
-     f"shapes(picture, '.way-place').length, words(picture)[0]])(localPicture(library, library.frame('{AIR_EVEN}'), "
-     f"library.local(library.frame('{AIR_EVEN}'), {{ lat: 52, lon: 4 }}), {{ lat: {{ num: 52n, den: 1n }}, "
-     f"lon: {{ num: 4n, den: 1n }} }}))",
+     f"'.way-other').length, shapes(picture, '.way-place').length, words(picture)[0]])(localPicture(library, "
+     f"library.frame('{AIR_EVEN}'), library.local(library.frame('{AIR_EVEN}'), {{ lat: 52, lon: 4 }}), {{ lat: {{ num: "
+     f"52n, den: 1n }}, lon: {{ num: 4n, den: 1n }} }}))",
      [[{"x": 137.5, "y": 125 - 78.125 / 2, "width": 125, "height": 78.125, "class": "way-box"}],
       [{"d": "M193 125h14M200 118v14", "class": "way-given"}], 9, 1, "position"]),
     (f"((picture) => [shapes(picture, '.way-place')[0].cx, shapes(picture, '.way-place')[0].cy])(localPicture(library, "
@@ -420,7 +406,7 @@ WAYS: Rows = (
     (f"((library, older, newer) => zoneMarks(library, older, library.pair(newer, older), 'given', 'text').map(({{ lon, "
      f"lat, text }}) => [lon, lat, text]))(library, library.frame('{AIR_EVEN}'), library.frame('{AIR_ODD}')).filter("
      "([lon]) => lon > 0 && lon < 10)",
-     [[51372 / 131072 * 360 / zone_count(428091 / 8192 + north), 428091 / 8192 + north, "" if north else "text"]
+     [[51372 / STEPS * 360 / zone_count(428091 / 8192 + north), 428091 / 8192 + north, "" if north else "text"]
       for north in (-6, 0, 6)]),
     (f"((older, newer) => {{ const [picture] = pairPicture(library, older, newer, library.pair(older, newer)); return "
      f"[shapes(picture, '.way-given').length, shapes(picture, '.way-other').length, shapes(picture, 'circle')[0].cx, "
@@ -431,11 +417,11 @@ WAYS: Rows = (
      "library.encode(new AirHead({ address: 1 }), { lat: 10, lon: 179.99 }))", 9),
     ("((older, newer) => pairPicture(library, older, newer, library.pair(older, newer)).map((picture) => "
      "shapes(picture, '.way-line').filter(({ d }) => d.endsWith('V250')).length))("
-     "library.frame('8D43029E58C3850001C89AEDB595'), library.frame('8D43029E58C3800001C89AE29463'))", [4]),
+     f"library.frame('{POLE_EVEN}'), library.frame('{POLE_ODD}'))", [4]),
     ("((older, newer) => { const site = { lat: library.angle('51.990'), lon: library.angle('4.375') }, picture = "
      "groundPicture(library, older, newer, site, library.pair(older, newer, site)); return [shapes(picture, "
      "'.way-other').map(({ x, y }) => [x < 0, Math.round((x + 4) / 50), y < 121]), shapes(picture, '.way-box')] })("
-     f"library.frame('{OLDER_GROUND}'), library.frame('{NEWER_GROUND}'))",
+     f"library.frame('{GROUND_EVEN}'), library.frame('{GROUND_ODD}'))",
      [[[False, at, north] for at in (4, 6, 0, 2) for north in (True, False)],
       [{"x": 200 * (1 + (4.375 - 45) / 180), "y": 125 * (1 - (51.99 + 45) / 90), "width": 100, "height": 125,
         "class": "way-box"}]]),
@@ -452,7 +438,6 @@ def pictures(tries: Tries) -> str:
         clicked(browser, f"[name=send-kind][value={kind}]")
         typed(browser, send_lat=lat, send_lon=lon)
         count += close_picture(browser)
-    silent(browser)
     return f"{count} drawings"
 
 
@@ -471,7 +456,7 @@ def close_picture(browser: Chromium) -> int:
     spots[2] += 7
     cosine = browser.evaluate("Math.cos(parseFloat(byId('send-lat').value) * Math.PI / 180)")
     for at in (0, 1):
-        east, north = (error[at] * 111195 * factor for error, factor in zip(errors, (cosine, 1)))
+        east, north = (error[at] * METRES * factor for error, factor in zip(errors, (cosine, 1)))
         right, up = ((spots[2 * at] - 200) / 250 * high, (125 - spots[2 * at + 1]) / 250 * high)
         expect(abs(right - east) < 0.02 and abs(up - north) < 0.02, "a frame of", east, north, "is at", right, up)
     return 2

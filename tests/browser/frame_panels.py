@@ -4,12 +4,12 @@ import random
 import subprocess
 
 from chromium import Chromium
-from trying import AIR_EVEN, AIR_ODD, Tries, cases, expect
-from using import clicked, pressed, shown, silent, typed
+from trying import AIR_EVEN, AIR_ODD, GROUND_EVEN, GROUND_ODD, POLE_EVEN, POLE_ODD, Tries, cases, expect
+from using import clicked, pressed, says, shown, texts_of, typed, value_of
 
 
 def frames(tries: Tries) -> str:
-    """The panel of a frame: each field's bits spell its value, faults are marked, and remainders are shown."""
+    """The panel of a frame: each field's bits spell its value. (values.frame_tables has the faults.)"""
     browser = tries.page()
     good = [case["input"]["frame"] for case in cases("fields") if "refused" not in case["answer"]]
     wrong = browser.evaluate(
@@ -25,28 +25,9 @@ def frames(tries: Tries) -> str:
         }))"""
     )
     expect(wrong == [], "bits and values differ:", wrong)
-    rows = [
-        (f"*{AIR_EVEN[:7]}G{AIR_EVEN[8:]};", "bad digit 8", "G"),
-        (f"*{AIR_EVEN}", "bad wrapping", " "),
-        (f"{AIR_EVEN};", "bad wrapping", "8"),
-        (f"{AIR_EVEN[:-1]}6", "parity 000001", None),
-        ("<b>", "bad length 3", None),
-        ("", "bad length 0", None),
-        ("5D40621D58C382", "short frame", None),
-    ]
-    for text, words, mark in rows:
-        typed(browser, frame_text=text)
-        answer = shown(browser, "#frame-answer")
-        expect(words in answer, text, answer)
-        marked = browser.evaluate("document.querySelector('#frame-answer mark')?.textContent ?? null")
-        expect(marked == mark, text, "marks", marked)
-    typed(browser, frame_text=f"{AIR_EVEN[:-1]}6")
-    expect("the remainder is 000001" in shown(browser, "#frame-answer"), shown(browser, "#frame-answer"))
     clicked(browser, "[data-frame]")
-    answer = shown(browser, "#frame-answer")
-    expect("38000 feet" in answer and "93000" in answer and "40621D" in answer, answer)
-    silent(browser)
-    return f"{len(good)} frames, {len(rows)} faults"
+    says(browser, "38000 feet", "93000", "40621D", of="#frame-answer")
+    return f"{len(good)} frames"
 
 
 def places(tries: Tries) -> str:
@@ -55,24 +36,19 @@ def places(tries: Tries) -> str:
     rows = [
         ("pair", AIR_EVEN, AIR_ODD, "", ""),
         ("local", "", AIR_EVEN, "52.258", "3.918"),
-        ("pair", "8C4841753AAB238733C8CD4020B1", "8C4841753A8A35323FAEBDAC702D", "51.990", "4.375"),
-        ("pair", "8D43029E58C3850001C89AEDB595", "8D43029E58C3800001C89AE29463", "", ""),
-        ("pair", "8C4841753AAB238733C8CD4020B1", "8C4841753A8A35323FAEBDAC702D", "", ""),
+        ("pair", GROUND_EVEN, GROUND_ODD, "51.990", "4.375"),
+        ("pair", POLE_EVEN, POLE_ODD, "", ""),
+        ("pair", GROUND_EVEN, GROUND_ODD, "", ""),
         ("pair", AIR_EVEN, AIR_EVEN, "", ""),
         ("local", "", AIR_EVEN, "91", "0"),
         ("pair", "x", AIR_EVEN, "", ""),
     ]
-    rows += [
-        ("pair", case["input"]["older"], case["input"]["newer"], "", "")
-        for case in cases("pair")
-        if str(case["answer"].get("refused")).startswith("zone counts")
-    ][:3]
+    rows += [("pair", case["input"]["older"], case["input"]["newer"], "", "") for case in cases("pair")
+             if str(case["answer"].get("refused")).startswith("zone counts")][:3]
     for row in rows:
         answer = answer_beside_program(tries, *row)
     expect("Step by step" in answer, answer)
-    pictures = pictures_of_zones(browser)
-    silent(browser)
-    return f"{len(rows)} places, {pictures} pictures"
+    return f"{len(rows)} places, {pictures_of_zones(browser)} pictures"
 
 
 def answer_beside_program(tries: Tries, way: str, older: str, newer: str, lat: str, lon: str) -> str:
@@ -105,7 +81,7 @@ def pictures_of_zones(browser: Chromium) -> int:
     )
     for example, height, width, squares in ways:
         clicked(browser, example)
-        cells = browser.evaluate("[...document.querySelectorAll('#place-answer td')].map((cell) => cell.textContent)")
+        cells = texts_of(browser, "#place-answer td")
         expect(all(any(cell.endswith(f", {size}") for cell in cells) for size in (height, width)), example, cells)
         marks = browser.evaluate("document.querySelectorAll('#place-answer .way-other').length")
         expect(marks in (squares, 9), example, "has", marks, "marks")
@@ -118,20 +94,14 @@ def sent(tries: Tries) -> str:
     rng, count = random.Random(7), 0
     for kind in ("air", "ground"):
         clicked(browser, f"[name=send-kind][value={kind}]")
-        for lat, lon in [
-            ("52.2572021", "3.9193726"),
-            ("-90", "180"),
-            ("90", "-180"),
-            ("0", "0"),
-            *((f"{rng.uniform(-90, 90):.7f}", f"{rng.uniform(-180, 180):.7f}") for _ in range(6)),
-        ]:
+        for lat, lon in [("52.2572021", "3.9193726"), ("-90", "180"), ("90", "-180"), ("0", "0"), *(
+                (f"{rng.uniform(-90, 90):.7f}", f"{rng.uniform(-180, 180):.7f}") for _ in range(6))]:
             count += sent_beside_program(tries, kind, lat, lon)
     clicked(browser, "[name=send-kind][value=air]")
     moved_on_picture(browser)
     for bad in ({"send_lat": "91"}, {"send_lat": "x"}, {"send_address": "4062"}):
         typed(browser, **{"send_lat": "1", "send_lon": "1", "send_address": "40621D", **bad})
         expect("Refused" in shown(browser, "#send-answer"), bad, shown(browser, "#send-answer"))
-    silent(browser)
     return f"{count} frames"
 
 
@@ -158,11 +128,11 @@ def moved_on_picture(browser: Chromium) -> None:
     at = [(box[0] + box[2] * part, box[1] + box[3] * part) for part in (0.5, 0.6, 0.75)]
     for kind, (x, y) in zip(("mousePressed", "mouseMoved", "mouseReleased"), at):
         browser.call("Input.dispatchMouseEvent", type=kind, x=x, y=y, button="left", buttons=1, clickCount=1)
-    lat, lon = (float(browser.evaluate(f"document.getElementById('send-{name}').value")) for name in ("lat", "lon"))
+    lat, lon = (float(value_of(browser, f"send-{name}")) for name in ("lat", "lon"))
     expect(abs(lat + 18) < 1 and abs(lon - 36) < 2, "dragged to", lat, lon)
     browser.evaluate("document.querySelector('.spot').focus()")
     pressed(browser, "ArrowUp")
-    north = float(browser.evaluate("document.getElementById('send-lat').value"))
+    north = float(value_of(browser, "send-lat"))
     expect(abs(north - lat - 1) < 1e-6, "the arrow moves from", lat, "to", north)
     marks = browser.evaluate("document.querySelectorAll('#send-near [class^=way-]').length")
     expect(marks >= 3, "the picture has", marks, "marks")

@@ -1,30 +1,23 @@
 """Parts of tests/page about the map of a log: the land, the labels, and the aircraft that is selected."""
+import functools
 import json
 import math
 from typing import List, Tuple
 
 from chromium import Chromium
-from logs import flights, tracked
-from trying import SITE, Tries, expect
-from using import clicked, heard, silent
+from logs import NEAR, flights, tracked
+from trying import Tries, expect
+from using import changed, clicked, example_page, heard, value_of
 
 # Places, off the lines of the grid, and whether they are on land: inside countries, in seas, and in a sea within the
 # land.
 PLACES = (
-    ("France", 2.5, 46.6, True),
-    ("Kansas", -98.4, 38.6, True),
-    ("Australia", 134.3, -24.2, True),
-    ("Chukotka, east of 180 degrees", -178.3, 67.6, True),
-    ("Russia, on the Black Sea", 40.2, 44.6, True),
-    ("Atlantic", -33.3, 43.7, False),
-    ("Bay of Biscay", -6.3, 45.6, False),
-    ("Pacific", -153.2, 12.4, False),
-    ("Caspian Sea", 50.7, 41.4, False),
-    ("Congo, north of the equator", 26.3, 1.4, True),
-    ("Congo, south of the equator", 21.4, -1.7, True),
-    ("Antarctica", 63.3, -76.4, True),
-    ("Antarctica, near the pole", 140.5, -85.3, True),
-    ("Arctic", 7.3, 87.3, False),
+    ("France", 2.5, 46.6, True), ("Kansas", -98.4, 38.6, True), ("Australia", 134.3, -24.2, True),
+    ("Chukotka, east of 180 degrees", -178.3, 67.6, True), ("Russia, on the Black Sea", 40.2, 44.6, True),
+    ("Atlantic", -33.3, 43.7, False), ("Bay of Biscay", -6.3, 45.6, False), ("Pacific", -153.2, 12.4, False),
+    ("Caspian Sea", 50.7, 41.4, False), ("Congo, north of the equator", 26.3, 1.4, True),
+    ("Congo, south of the equator", 21.4, -1.7, True), ("Antarctica", 63.3, -76.4, True),
+    ("Antarctica, near the pole", 140.5, -85.3, True), ("Arctic", 7.3, 87.3, False),
 )
 
 # A copy of the map, to be read.
@@ -62,7 +55,7 @@ def land(tries: Tries) -> str:
     dark, and after the map was moved. Where the coast would be wrong by many points it is not drawn."""
     browser, count = tries.page("log"), 0
     for dark in (False, True):
-        browser.look(1100, 900, dark)
+        browser.look(dark=dark)
         for view in ("plain", "mercator", "north", "south"):
             for scale in (3, 30):
                 count += sum(is_shown(browser, place, view, scale) for place in PLACES)
@@ -85,7 +78,6 @@ def land(tries: Tries) -> str:
         expect(browser.evaluate(f"{PIXEL}({lon}, {lat})") not in ("land", "sea", "outside"), "sea beyond the map of",
                view)
     pictures = pictured_land(browser)
-    silent(browser)
     return f"{count} places, {pictures} pictures"
 
 
@@ -220,7 +212,6 @@ def labels(tries: Tries) -> str:
         browser.evaluate(f"squitterLog.map.select({address}); squitterLog.map.draw()")
         first = browser.evaluate(LABELS)[0][0]
         expect(first == f"{address:06X}", "the first label is", first)
-    silent(browser)
     return f"{count} labels"
 
 
@@ -237,7 +228,7 @@ def selected(tries: Tries) -> str:
         box = browser.evaluate("(({ top, bottom }) => [top, bottom])(document.getElementById('map')"
                                ".getBoundingClientRect())")
         expect(0 <= box[0] and box[1] <= height, "the map is at", box, "of", height)
-        chosen = browser.evaluate("document.getElementById('map-address').value")
+        chosen = value_of(browser, "map-address")
         expect(chosen == "484004" and browser.evaluate("squitterLog.map.address") == 0x484004, "selected is", chosen)
         spots = browser.evaluate("squitterLog.tracks.pieces(0x484004).flatMap(({ lons, lats }) => "
                                  "Array.from(lons, (lon, at) => squitterLog.map.spot({ lon, lat: lats[at] })))")
@@ -250,18 +241,16 @@ def selected(tries: Tries) -> str:
         expect(max(shares) > 0.3, "the flight fills", shares, "of the map")
     kinds = browser.evaluate("squitterLog.tracks.pieces(0x484004).map(({ kind, joined }) => [kind, joined])")
     expect(kinds == [[2, False], [1, True]], "the pieces of a take-off are", kinds)
-    browser.look(1100, 900, False)
+    browser.look()
     clicked(browser, "[data-map=fit]")
-    browser.evaluate("document.getElementById('map-address').value = ''; "
-                     "document.getElementById('map-address').dispatchEvent(new Event('change'))")
+    changed(browser, map_address="")
     expect(browser.evaluate("Number.isNaN(squitterLog.map.address)"), "all is not shown")
     wide = [browser.evaluate(f"squitterLog.map.draw(), {LINE_WIDE}(0x3C0005)") for _ in range(2)]
     browser.evaluate("squitterLog.map.choose(squitterLog.tracks.newest(0x3C0005))")
     browser.evaluate("squitterLog.map.choose(null)")
     wide += [browser.evaluate(f"squitterLog.map.draw(), {LINE_WIDE}(0x3C0005)") for _ in range(2)]
     expect(wide[0] == wide[1] and wide[2] == wide[3] > wide[0], "the mark is", wide, "points wide")
-    expect(browser.evaluate("document.getElementById('map-address').value") == "3C0005", "the field stays")
-    silent(browser)
+    expect(value_of(browser, "map-address") == "3C0005", "the field stays")
     return "an example on a desktop and on a phone"
 
 
@@ -303,9 +292,14 @@ IN_COLOR = f"(() => {{ squitterLog.map.draw(); const pen = {PEN}; return " + """
   const wanted = [1, 3, 5].map((at) => parseInt(color.slice(at, at + 2), 16));
   return points.map(([right, down]) => {
     const { data } = pen.getImageData(Math.floor(x + right), Math.floor(y + down), 1, 1);
-    return wanted.every((part, at) => Math.abs(data[at] - part) < 40);
+    return wanted.every((part, at) => Math.abs(data[at] - part) < 25);
   });
 } })()"""
+
+
+def in_color(browser: Chromium, index: int, lon: float, lat: float, points: List[Tuple[int, int]]) -> List[bool]:
+    """Whether points to the right of a place and below it have the colour of a track."""
+    return list(browser.evaluate(f"{IN_COLOR}({index}, {lon}, {lat}, {json.dumps(points)})"))
 
 
 def drawn_tracks(tries: Tries) -> str:
@@ -314,9 +308,7 @@ def drawn_tracks(tries: Tries) -> str:
     browser = tries.page("log")
     browser.evaluate(FOUR)
 
-    def colored(index: int, lon: float, lat: float, points: List[Tuple[int, int]]) -> List[bool]:
-        return list(browser.evaluate(f"{IN_COLOR}({index}, {lon}, {lat}, {json.dumps(points)})"))
-
+    colored = functools.partial(in_color, browser)
     for index, lat, is_ground in ((0, 1, False), (1, -1, True)):
         corner, middle = colored(index, 2, lat, [(3, 3), (1, 1)])
         expect(middle and corner == is_ground, index, "has a mark with", middle, corner)
@@ -342,18 +334,15 @@ def drawn_tracks(tries: Tries) -> str:
         middle, side = colored(1, lon, -1, [(0, 0), (4, 0)])
         expect(middle != is_silent, "the middle of a mark at", until, "is", middle)
         expect(side or not is_silent, "the border of a hollow mark is not drawn")
-    silent(browser)
     return "four aircraft"
 
 
 def saved_rows(tries: Tries) -> str:
     """The example as CSV is what the program prints for it, and each row of the table has the altitude that is there,
     below a header that stays."""
-    browser = tries.page("log")
-    clicked(browser, "#log-example")
-    heard(browser)
+    browser = example_page(tries)
     clicked(browser, "#log-csv")
-    got, wanted = tries.downloaded("answers.csv"), tracked(tries.program, flights(), (10_000, 1000, SITE), "csv")
+    got, wanted = tries.downloaded("answers.csv"), tracked(tries.program, flights(), NEAR, "csv")
     expect(got == wanted, got[:300], wanted[:300])
     expect(browser.evaluate("document.querySelectorAll('a[download]').length") == 0, "a link to the file is left")
     rows = [line.split(",") for line in wanted.decode().splitlines()[1:]]
@@ -378,7 +367,6 @@ def saved_rows(tries: Tries) -> str:
         "const before = top(); box.scrollTop = 300; return [before, top(), box.scrollTop, box.clientHeight] })()"
     )
     expect(abs(tops[0] - tops[1]) < 2 and tops[2] == 300 and tops[3] < 500, "the header moves:", tops)
-    silent(browser)
     return f"{count} rows"
 
 
@@ -433,5 +421,4 @@ def times(tries: Tries) -> str:
         unit = " UTC" if later > 10_000 else ""
         expect([title, cell, output] == [titles, first, end + unit], later, title, cell, output)
         expect(f", {last}{unit}, " in spot and ", 7525 ft, " in spot, spot)
-    silent(browser)
     return f"{len(CLOCKS)} moments, 3 logs"

@@ -6,29 +6,30 @@ import lzma
 import os
 import re
 import subprocess
+from pathlib import Path
+from typing import Dict, Tuple
 
 from chromium import Chromium
-from logs import USUAL, damaged, flights, hostile_logs, of_address, tracked
+from log_map import in_color
+from logs import NEAR, PIECE_BYTES, USUAL, Settings, damaged, flights, hostile_logs, of_address, tracked
 from trying import AIR_EVEN, AIR_ODD, SITE, Tries, bytes_of, expect, first_difference
-from using import clicked, given_log, heard, pressed, shown, silent, typed
+from using import (changed, clicked, dropped, example_page, given_file, given_log, heard, heard_right, pressed, says,
+                   shown, texts_of, typed, value_of)
 
 
 def example(tries: Tries) -> str:
     """The example by its button: its text is what the program answers, and its tracks are cut at 180 degrees."""
-    browser = tries.page("log")
-    clicked(browser, "#log-example")
-    heard(browser)
+    browser = example_page(tries)
     clicked(browser, "#log-text")
-    text, wanted = tries.downloaded("answers.txt"), tracked(tries.program, flights(), (10_000, 1000, SITE))
+    text, wanted = tries.downloaded("answers.txt"), tracked(tries.program, flights(), NEAR)
     expect(text == wanted, first_difference(text, wanted))
     clicked(browser, "#log-geojson")
     features = json.loads(tries.downloaded("tracks.geojson"))["features"]
     lines = [one["geometry"]["coordinates"] for one in features if one["geometry"]["type"] == "LineString"]
     points = sum(map(len, lines)) + len(features) - len(lines)
     expect(points == len(re.findall(rb"^\d+ (?:fix|followed) ", wanted, re.M)), points, "places")
-    expect(
-        all(abs(a[0] - b[0]) < 180 for line in lines for a, b in zip(line, line[1:])), "a line goes around the Earth"
-    )
+    expect(all(abs(a[0] - b[0]) < 180 for line in lines for a, b in zip(line, line[1:])),
+           "a line goes around the Earth")
     expect({one["properties"]["address"] for one in features} >= {"7C0003", "A00002"}, features)
     log_lines = flights().splitlines()
     for one in features:
@@ -39,27 +40,14 @@ def example(tries: Tries) -> str:
         expect(len(numbers) == len(one["geometry"]["coordinates"]) if is_line else 1, one)
         expect([int(log_lines[number - 1].split()[0]) for number in numbers] == moments, one["properties"])
     typed(browser, filter_what="0")
-    expect(
-        shown(browser, "#log-rows").endswith(f"of {len(re.findall(rb'(bad|parity|short|not DF17|moment)', wanted))}."),
-        shown(browser, "#log-rows"),
-    )
+    refused = len(re.findall(rb"(bad|parity|short|not DF17|moment)", wanted))
+    expect(shown(browser, "#log-rows").endswith(f"of {refused}."), shown(browser, "#log-rows"))
     typed(browser, filter_what="places", filter_address="7c0003")
-    rows = browser.evaluate(
-        "[...document.querySelectorAll('#log-table tbody tr')].map((row) => row.cells[3].textContent)"
-    )
+    rows = texts_of(browser, "#log-table tbody td:nth-child(4)")
     expect(len(rows) == 100 and set(rows) == {"7C0003"}, rows)
     places = len(re.findall(rb"^\d+ (?:fix|followed) 7C0003 ", wanted, re.M))
     expect(shown(browser, "#log-rows") == f"Results 1 to 100 of {places}.", shown(browser, "#log-rows"), places)
-    silent(browser)
     return f"{len(wanted.splitlines())} answers, {len(features)} pieces of tracks"
-
-
-DROP = """(() => {
-  const dataTransfer = new DataTransfer();
-  dataTransfer.items.add(new File([exampleLog()], "dropped.log"));
-  const drop = new DragEvent("drop", { dataTransfer, bubbles: true, cancelable: true });
-  document.getElementById("log-table").dispatchEvent(drop);
-})()"""
 
 
 def logs_in_browser(tries: Tries) -> str:
@@ -67,32 +55,24 @@ def logs_in_browser(tries: Tries) -> str:
     browser = tries.page("log")
     count = 0
     for name, log, (window, limit, site) in hostile_logs():
-        path = f"{tries.work}/given.log"
-        with open(path, "wb") as file:
-            file.write(log)
         lat, lon = site or ("", "")
         typed(browser, log_window=str(window), log_limit=str(limit), log_lat=lat, log_lon=lon)
-        browser.evaluate("document.getElementById('log-file').value = ''")
-        browser.give("#log-file", path)
-        browser.wait("squitterLog.name === 'given.log'")
-        got, wanted = heard(browser), tracked(tries.program, log, (window, limit, site))
-        expect(got == wanted, name, first_difference(got, wanted))
-        browser.evaluate("squitterLog.name = ''")
+        given_file(browser, f"{tries.work}/given.log", log)
+        heard_right(tries, log, (window, limit, site), name)
         count += 1
     typed(browser, log_window="10000", log_limit="1000", log_lat=SITE[0], log_lon=SITE[1])
-    browser.evaluate(DROP)
-    got, wanted = heard(browser), tracked(tries.program, flights(), (10_000, 1000, SITE))
-    expect(got == wanted and "dropped.log" in shown(browser, "#log-state"), first_difference(got, wanted))
+    dropped(browser, "log-table", ["drop"], flights().decode(), "dropped.log")
+    heard_right(tries, flights(), NEAR)
+    says(browser, "dropped.log")
     for field, bad in (("log_window", "x"), ("log_limit", "0"), ("log_lat", "91"), ("log_lon", "")):
         typed(browser, log_window="10000", log_limit="1000", log_lat="1", log_lon="1")
         typed(browser, **{field: bad})
-        browser.evaluate(DROP)
+        dropped(browser, "log-table", ["drop"], flights().decode(), "dropped.log")
         expect(shown(browser, "#log-state").startswith("Refused: "), field, shown(browser, "#log-state"))
     # a setting that is refused ends the log that is being decoded, and then there is nothing to cancel
     typed(browser, log_window="10000", log_limit="1000", log_lat="", log_lon="")
     buttons = browser.evaluate(REFUSED_MEANWHILE)
     expect(buttons == [False, True, True], "nothing to cancel:", buttons)
-    silent(browser)
     return f"{count} logs, and one dropped"
 
 
@@ -122,31 +102,27 @@ def receiver_files(tries: Tries) -> str:
             f"\n{moment // 1000}.{moment % 1000:03},{frame[2:8].lower()},{frame.lower()}" for moment, frame in timed
         ).encode(),
     }
-    settings, wanted = (10_000, 1000, SITE), tracked(tries.program, log, (10_000, 1000, SITE))
     typed(browser, log_lat=SITE[0], log_lon=SITE[1])
     for name, data in files.items():
-        expect(len(data) > 1 << 20, name, "has one piece")
+        expect(len(data) > PIECE_BYTES, name, "has one piece")
         given_file(browser, f"{path}.{name}", data)
-        got = heard(browser)
-        expect(got == wanted, name, first_difference(got, wanted))
-        told = f"The file has {len(timed)} frames: {len(timed)} squitters, 0 damaged."
-        expect(told in shown(browser, "#log-state"), shown(browser, "#log-state"))
+        heard_right(tries, log, NEAR, name)
+        says(browser, f"The file has {len(timed)} frames: {len(timed)} squitters, 0 damaged.")
     untimed = "".join(f"*{frame};\n" for frame in frames[:100]).encode()
     given_file(browser, f"{path}.raw", untimed)
-    got, state = heard(browser), shown(browser, "#log-state")
-    expect(got == tracked(tries.program, untimed, settings) and "The file has" not in state, got, state)
+    heard_right(tries, untimed, NEAR)
+    expect("The file has" not in shown(browser, "#log-state"), shown(browser, "#log-state"))
     given_file(browser, f"{path}.tail", f"5 {AIR_ODD}\n405 {AIR_EVEN}".encode())
     rows = browser.evaluate("[squitterLog.answers.count, squitterLog.answers.places]")
     expect(rows == [2, 1], "the rows of a log whose last line has no line feed:", rows)
     late_squitters(browser, path)
-    packed_files(tries, browser, path, files["beast"], wanted)
+    packed_files(tries, path, files["beast"], log)
     strange_files(tries, browser, path)
     rows = [f"{(9 - hour) * 3600},40621d,{AIR_EVEN}\n" for hour in range(9)]
     given_file(browser, f"{path}.unsorted", "".join(["time,icao24,rawmsg\n", *rows]).encode())
-    expect("8 squitters out of order, set aside." in shown(browser, "#log-state"), shown(browser, "#log-state"))
+    says(browser, "8 squitters out of order, set aside.")
     given_file(browser, f"{path}.zero", b"".join(map(beast, frames[:100])))
-    expect("(its frames have no times)" in shown(browser, "#log-state"), shown(browser, "#log-state"))
-    silent(browser)
+    says(browser, "(its frames have no times)")
     return f"{len(timed)} frames in {len(files)} formats"
 
 
@@ -157,30 +133,25 @@ def late_squitters(browser: Chromium, path: str) -> None:
         timed = [*((moment, other) for moment in range(count)), (count, AIR_ODD), (count + 400, AIR_EVEN)]
         data = (b"".join(beast(frame, 12_000 * moment) for moment, frame in timed) if name == "beast" else
                 "".join(f"@{12_000 * moment:012X}{frame};\n" for moment, frame in timed).encode())
-        expect(len(data) > 1 << 20, name, "has one piece")
+        expect(len(data) > PIECE_BYTES, name, "has one piece")
         given_file(browser, f"{path}.{count}.{name}", data)
-        got, state = heard(browser), shown(browser, "#log-state")
-        expect(got == b"1 waiting 40621D\n2 fix 40621D 52.2572021 3.9193726\n", name, got[:200], state)
-        expect(f"The file has {count + 2} frames: 2 squitters, 0 damaged." in state, state)
+        got = heard(browser)
+        expect(got == b"1 waiting 40621D\n2 fix 40621D 52.2572021 3.9193726\n", name, got[:200])
+        says(browser, f"The file has {count + 2} frames: 2 squitters, 0 damaged.")
 
 
-def packed_files(tries: Tries, browser: Chromium, path: str, data: bytes, wanted: bytes) -> None:
+def packed_files(tries: Tries, path: str, data: bytes, log: bytes) -> None:
     """A file that is compressed with gzip is unpacked, and refused if it is cut. Other archives are refused."""
-    packed = gzip.compress(data)
-    given_file(browser, f"{path}.gz", packed)
-    expect(heard(browser) == wanted, "Beast, compressed with gzip")
-    for name, archive in (("bz2", bz2.compress(data)), ("xz", lzma.compress(data)), ("zip", b"PK\3\4" + data)):
-        given_file(browser, f"{path}.{name}", archive)
-        told = "not decoded to its end (unpack it first: only gzip is unpacked here)"
-        expect(told in shown(browser, "#log-state"), name, shown(browser, "#log-state"))
-    damaged_line = b"\x1f\n" + flights()
-    given_file(browser, f"{path}.log", damaged_line)
-    got, settings = heard(browser), (10_000, 1000, SITE)
-    expect(got == tracked(tries.program, damaged_line, settings), "a log that begins as gzip does, by one byte")
-    for broken in (packed[:-9], b"\x1f\x8b" + data[:99]):
-        given_file(browser, f"{path}.cut", broken)
-        told = "not decoded to its end (its gzip data is damaged or ends early)"
-        expect(told in shown(browser, "#log-state"), shown(browser, "#log-state"))
+    browser, packed, damaged_line = tries.browser, gzip.compress(data), b"\x1f\n" + flights()
+    for name, given, as_log in (("gz", packed, log), ("log", damaged_line, damaged_line)):  # as gzip does, by one byte
+        given_file(browser, f"{path}.{name}", given)
+        heard_right(tries, as_log, NEAR, name)
+    other, broken = "unpack it first: only gzip is unpacked here", "its gzip data is damaged or ends early"
+    for name, given, told in (("bz2", bz2.compress(data), other), ("xz", lzma.compress(data), other),
+                              ("zip", b"PK\3\4" + data, other), ("cut", packed[:-9], broken),
+                              ("cut", b"\x1f\x8b" + data[:99], broken)):
+        given_file(browser, f"{path}.{name}", given)
+        says(browser, f"not decoded to its end ({told})")
 
 
 SEMICOLONS = "The table has semicolons between its columns: they have to be commas, and its decimal commas points."
@@ -219,20 +190,12 @@ def strange_files(tries: Tries, browser: Chromium, path: str) -> None:
              "It is compressed: only gzip is unpacked here, and once."))
     for name, data, told in rows:
         given_file(browser, f"{path}.{name}", data)
-        state, log = shown(browser, "#log-state"), gzip.decompress(data) if name == "twice" else data
-        expect(state.endswith(f" s. {told}") and heard(browser) == tracked(tries.program, log, USUAL), state)
+        heard_right(tries, gzip.decompress(data) if name == "twice" else data, USUAL, name)
+        expect(shown(browser, "#log-state").endswith(f" s. {told}"), name, shown(browser, "#log-state"))
     for first in ("MSG,3\n", "{}\n"):
         given_file(browser, f"{path}.{len(first)}", (first + line).encode())
         state = shown(browser, "#log-state")
         expect(heard(browser) == b"1 bad moment\n2 waiting 40621D\n" and " s." == state[-3:], first, state)
-
-
-def given_file(browser: Chromium, path: str, data: bytes) -> None:
-    """Gives the page a file, and waits until it is heard or refused."""
-    with open(path, "wb") as file:
-        file.write(data)
-    browser.give("#log-file", path)
-    browser.wait(f"squitterLog.name === {json.dumps(os.path.basename(path))} && squitterLog.worker === null")
 
 
 def beast(frame: str, ticks: int = 0) -> bytes:
@@ -246,50 +209,33 @@ def own_site(tries: Tries) -> str:
     """The site starts empty and is that of the user: the example's is for the example alone, and typed or not a file
     is heard with what is typed. Frames from the ground without a site say in words what is wanted."""
     browser = tries.page("log")
-    here = browser.evaluate("[document.getElementById('log-lat').value, document.getElementById('log-lon').value]")
+    here = [value_of(browser, name) for name in ("log-lat", "log-lon")]
     expect(here == ["", ""], "the site starts as", here)
-    sydney = ("-33.95", "151.18")
-    pair = b"".join(
-        b"%d %s\n" % (moment, frame.encode())
-        for moment, frame in enumerate(
-            subprocess.run(
-                [tries.program, "encode", "--kind=ground", f"--parity={parity}", "--address=7C1234",
-                 f"--lat={sydney[0]}", f"--lon={sydney[1]}"],
-                check=True, stdout=subprocess.PIPE, text=True,
-            ).stdout.strip()
-            for parity in ("even", "odd")
-        )
-    )
+    sydney, words = ("-33.95", "151.18"), [tries.program, "encode", "--kind=ground", "--address=7C1234"]
+    pair = b"".join(b"%d %s" % (moment, subprocess.run([*words, f"--parity={parity}", *map("--{}={}".format,
+                    ("lat", "lon"), sydney)], check=True, stdout=subprocess.PIPE).stdout)
+                    for moment, parity in enumerate(("even", "odd")))
     for before in (False, True):
         if before:
             clicked(browser, "#log-example")
-            expect(heard(browser) == tracked(tries.program, flights(), (10_000, 1000, SITE)), "the example")
-            expect("near 52.31, 4.76" in shown(browser, "#log-state"), shown(browser, "#log-state"))
+            heard_right(tries, flights(), NEAR, "the example")
+            says(browser, "near 52.31, 4.76")
             expect("from the ground" not in shown(browser, "#log-state"), shown(browser, "#log-state"))
         given_log(browser, tries, pair)
-        got = heard(browser)
-        expect(got == tracked(tries.program, pair, USUAL) and got.endswith(b"no site 7C1234\n"), before, got)
-        said = shown(browser, "#log-state")
-        expect("1 frame from the ground has no position: type the position of your receiver." in said, said)
+        got = heard_right(tries, pair, USUAL, before)
+        expect(got.endswith(b"no site 7C1234\n"), before, got)
+        says(browser, "1 frame from the ground has no position: type the position of your receiver.")
     typed(browser, log_lat=sydney[0], log_lon=sydney[1])
     given_log(browser, tries, pair)
-    got = heard(browser)
-    expect(got == tracked(tries.program, pair, (10_000, 1000, sydney)) and b" fix " in got, got)
+    got = heard_right(tries, pair, (10_000, 1000, sydney))
+    expect(b" fix " in got, got)
     clicked(browser, "#log-example")
-    expect(heard(browser) == tracked(tries.program, flights(), (10_000, 1000, SITE)), "the example, with another site")
-    silent(browser)
+    heard_right(tries, flights(), NEAR, "the example, with another site")
     return "two lines from Sydney, with and without a site"
 
 
-def changed(browser: Chromium, **fields: str) -> None:
-    """Types into fields and leaves each, so that the browser reports a change."""
-    for name, text in fields.items():
-        typed(browser, **{name: text})
-        browser.evaluate(f"document.getElementById('{name.replace('_', '-')}').dispatchEvent(new Event('change'))")
-
-
-def chosen_again(browser: Chromium, path: str) -> bytes:
-    """Opens the dialog of the file field by the mouse, and chooses a file; answers what is heard of it."""
+def chosen_again(browser: Chromium, path: str) -> None:
+    """Opens the dialog of the file field by the mouse, and chooses a file."""
     browser.call("Page.setInterceptFileChooserDialog", enabled=True)
     middle = browser.evaluate(
         "(() => { squitterLog.name = ''; const field = document.getElementById('log-file'); field.scrollIntoView();"
@@ -301,7 +247,13 @@ def chosen_again(browser: Chromium, path: str) -> bytes:
     browser.give("#log-file", path)
     browser.wait("squitterLog.name === 'again.log'")
     browser.call("Page.setInterceptFileChooserDialog", enabled=False)
-    return heard(browser)
+
+
+# What is changed, and the settings after it.
+CHANGES: Tuple[Tuple[Dict[str, str], Settings], ...] = (
+    ({"log_window": "400"}, (400, 1000, SITE)), ({"log_limit": "2"}, (400, 2, SITE)),
+    ({"log_limit": "1000", "log_window": "10000"}, NEAR), ({"log_lat": "-33.9"}, (10_000, 1000, ("-33.9", SITE[1]))),
+    ({"log_lat": "", "log_lon": ""}, USUAL))
 
 
 def heard_again(tries: Tries) -> str:
@@ -314,40 +266,31 @@ def heard_again(tries: Tries) -> str:
     changed(browser, log_lat="1", log_lon="2")
     expect(shown(browser, "#log-state") == "No log yet.", "a site without a log:", shown(browser, "#log-state"))
     changed(browser, log_lat="", log_lon="")
-    got = chosen_again(browser, path)
-    expect(got == tracked(tries.program, log, USUAL), "the first time")
-    expect("type the position of your receiver" in shown(browser, "#log-state"), shown(browser, "#log-state"))
+    chosen_again(browser, path)
+    heard_right(tries, log, USUAL, "the first time")
+    says(browser, "type the position of your receiver")
     changed(browser, log_lat=SITE[0])
     expect(browser.evaluate("squitterLog.worker === null"), "half a site")
     expect(shown(browser, "#log-state").startswith("again.log: decoded"), shown(browser, "#log-state"))
     changed(browser, log_lon=SITE[1])
-    got, near = heard(browser), tracked(tries.program, log, (10_000, 1000, SITE))
-    expect(got == near, "another site:", first_difference(got, near))
-    for fields, settings in (
-        ({"log_window": "400"}, (400, 1000, SITE)),
-        ({"log_limit": "2"}, (400, 2, SITE)),
-        ({"log_limit": "1000", "log_window": "10000"}, (10_000, 1000, SITE)),
-        ({"log_lat": "-33.9"}, (10_000, 1000, ("-33.9", SITE[1]))),
-        ({"log_lat": "", "log_lon": ""}, USUAL),
-    ):
+    near = heard_right(tries, log, NEAR, "another site:")
+    for fields, settings in CHANGES:
         changed(browser, **fields)
-        got, wanted = heard(browser), tracked(tries.program, log, settings)
-        expect(got == wanted, fields, first_difference(got, wanted))
+        heard_right(tries, log, settings, fields)
         expect(browser.evaluate("squitterLog.tracks.window") == settings[0], "the gap of a track with", fields)
     changed(browser, log_lat="91", log_lon="4")
     expect(shown(browser, "#log-state").startswith("Refused: "), shown(browser, "#log-state"))
     changed(browser, log_lat=SITE[0], log_lon=SITE[1])
-    expect(heard(browser) == near, "after a site that was refused")
+    heard_right(tries, log, NEAR, "after a site that was refused")
     with open(path, "ab") as file:
         file.write(b"999999 " + AIR_EVEN.encode() + b"\n")
-    got, wanted = chosen_again(browser, path), tracked(tries.program, bytes_of(path), (10_000, 1000, SITE))
-    expect(got == wanted and got != near, "the same file, which has grown:", first_difference(got, wanted))
-    given_log(browser, tries, of_address(log, "484004"))
+    chosen_again(browser, path)
+    expect(heard_right(tries, bytes_of(path), NEAR, "the same file, which has grown:") != near, "it has not grown")
+    one = of_address(log, "484004")
+    given_log(browser, tries, one)
     changed(browser, log_window="400")
-    got, wanted = heard(browser), tracked(tries.program, of_address(log, "484004"), (400, 1000, SITE))
-    expect(got == wanted, "another file since:", first_difference(got, wanted))
+    heard_right(tries, one, (400, 1000, SITE), "another file since:")
     count = example_again(tries, browser)
-    silent(browser)
     return f"{10 + count} times"
 
 
@@ -366,10 +309,9 @@ def example_again(tries: Tries, browser: Chromium) -> int:
              ({"log_window": "1000"}, (1000, 3)), ({"log_lat": "", "log_lon": ""}, (1000, 3)))
     for fields, (window, limit) in steps:
         changed(browser, **fields)
-        got, wanted = heard(browser), tracked(tries.program, log, (window, limit, SITE))
-        expect(got == wanted, "the example after", fields, first_difference(got, wanted))
-        expect("near 52.31" in shown(browser, "#log-state"), shown(browser, "#log-state"))
-        is_placed = re.search(rb" (?:fix|followed) 484004 ", wanted) is not None
+        got = heard_right(tries, log, (window, limit, SITE), "the example after", fields)
+        says(browser, "near 52.31")
+        is_placed = re.search(rb" (?:fix|followed) 484004 ", got) is not None
         expect(browser.evaluate("squitterLog.map.address === 0x484004") == is_placed, "the flight after", fields)
     return len(steps)
 
@@ -383,12 +325,9 @@ def huge_line(tries: Tries) -> str:
             file.write(b"8D" * 500_000)
         file.write(good)
     typed(browser, log_window="10000", log_limit="1000", log_lat="", log_lon="")
-    browser.evaluate("document.getElementById('log-file').value = ''")
-    browser.give("#log-file", path)
-    browser.wait("squitterLog.name === 'huge.log'")
-    got, wanted = heard(browser), tracked(tries.program, bytes_of(path), USUAL)
-    expect(got == wanted and got.count(b"\n") == 2, got[:200], wanted[:200])
-    silent(browser)
+    given_file(browser, path)
+    got = heard_right(tries, bytes_of(path))
+    expect(got.count(b"\n") == 2, got[:200])
     return f"{os.path.getsize(path)} bytes, {got.count(10)} answers"
 
 
@@ -415,7 +354,6 @@ def failed_worker(tries: Tries) -> str:
     given_file(browser, f"{tries.work}/empty.log", b"")
     told = [shown(browser, "#log-state"), browser.evaluate("document.getElementById('log-progress').value")]
     expect(told[0].startswith("empty.log: decoded. 0 lines, 0 positions, 0 refused, in ") and told[1] == 1, told)
-    silent(browser)
     return "two errors, and an empty file"
 
 
@@ -451,7 +389,6 @@ def workers_ended(tries: Tries) -> str:
         expect(left == 0, left, "workers are left after", what)
         count += 1
     clicked(browser, "#log-example")
-    browser.wait("squitterLog.worker === null")
     ended("a log")
     for name, file in (("csv", "answers.csv"), ("text", "answers.txt"), ("geojson", "tracks.geojson")):
         clicked(browser, f"#log-{name}")
@@ -464,16 +401,10 @@ def workers_ended(tries: Tries) -> str:
     ended("a save that fails")
     given_file(browser, f"{tries.work}/refused.bz2", b"BZh9")
     ended("a log that fails")
-    path = f"{tries.work}/long.log"
-    with open(path, "wb") as file:
-        file.write(damaged(100_000))
     for stop in ("#log-cancel", "#log-example"):
-        browser.evaluate("squitterLog.name = ''; document.getElementById('log-file').value = ''")
-        browser.give("#log-file", path)
-        browser.wait("squitterLog.name === 'long.log'")
+        given_file(browser, f"{tries.work}/long.log", damaged(100_000), until="worker !== null")
         clicked(browser, stop)
         ended(f"a log that is left by {stop}")
-    silent(browser)
     return f"{count} ends"
 
 
@@ -509,27 +440,21 @@ def long_log(tries: Tries) -> str:
     """Two hundred thousand lines: the page answers meanwhile, can cancel, and hears them all."""
     browser = tries.page("log")
     path, log = f"{tries.work}/long.log", damaged(200_000)
-    with open(path, "wb") as file:
-        file.write(log)
+    Path(path).write_bytes(log)
     browser.evaluate(PROGRESS)
-    browser.give("#log-file", path)
-    browser.wait("squitterLog.worker === null && squitterLog.name === 'long.log'")
+    given_file(browser, path)
     # A page that decoded the log by itself would do nothing else until the end, however long that takes.
     longest, whole = browser.evaluate("[longest, performance.now() - begun]")
     expect(longest < whole / 2, "the page did nothing else for", longest, "of", whole, "milliseconds")
-    ends = [*range(1 << 20, len(log), 1 << 20), len(log)]
+    ends = [*range(PIECE_BYTES, len(log), PIECE_BYTES), len(log)]
     told = browser.evaluate("delete squitterLog.told && [progressTold, document.getElementById('log-progress').value]")
     expect(told == [[end / len(log) for end in ends], 1], "progress:", told)
-    got, wanted = heard(browser), tracked(tries.program, log, USUAL)
-    expect(got == wanted, first_difference(got, wanted))
+    wanted = heard_right(tries, log)
     # The button is clicked in the page, at the first results: the log may end before a click from here arrives.
-    browser.evaluate("document.getElementById('log-file').value = ''; squitterLog.name = ''")
     browser.evaluate(CANCELS)
-    browser.give("#log-file", path)
-    browser.wait("squitterLog.name === 'long.log' && squitterLog.worker === null")
-    part = heard(browser)
-    expect("cancelled" in shown(browser, "#log-state") and wanted.startswith(part), shown(browser, "#log-state"))
-    silent(browser)
+    given_file(browser, path)
+    says(browser, "cancelled")
+    expect(wanted.startswith(heard(browser)), "other results than before")
     return f"{len(wanted.splitlines())} answers"
 
 
@@ -543,21 +468,6 @@ PLANES = """Object.values(PROJECTIONS).map((one) => {
     }
   }
   return worst;
-})"""
-
-DRAWN = """((lon, lat) => {
-  squitterLog.map.draw();
-  const { x, y } = squitterLog.map.spot({ lon, lat }), canvas = document.getElementById("map");
-  const index = [...squitterLog.tracks.all.keys()].indexOf(squitterLog.map.address);
-  const color = getComputedStyle(canvas).getPropertyValue(`--track${Math.max(index, 0)}`).trim().slice(1);
-  const wanted = [0, 2, 4].map((from) => parseInt(color.slice(from, from + 2), 16));
-  const copy = Object.assign(document.createElement("canvas"), { width: canvas.width, height: canvas.height });
-  const pen = copy.getContext("2d", { willReadFrequently: true });
-  pen.drawImage(canvas, 0, 0);
-  const pixels = [...pen.getImageData(Math.round(x) - 2, Math.round(y) - 2, 5, 5).data];
-  const isTrack = (at) => pixels[at + 3] > 60 && wanted.every((part, one) => Math.abs(pixels[at + one] - part) < 25);
-  const isSeen = x > 0 && y > 0 && x < canvas.clientWidth && y < canvas.clientHeight;
-  return isSeen && pixels.some((part, at) => at % 4 === 0 && isTrack(at));
 })"""
 
 
@@ -577,25 +487,24 @@ def maps(tries: Tries) -> str:
         )
         browser.evaluate(f"squitterLog.map.fit(0x{address})")
         for lon, lat in sorted(spots)[:1]:
-            expect(browser.evaluate(f"{DRAWN}({lon}, {lat})"), address, lon, lat, "is not drawn")
+            around = [(right, down) for right in range(-2, 3) for down in range(-2, 3)]
+            expect(any(in_color(browser, 0, lon, lat, around)), address, lon, lat, "is not drawn")
             count += 1
     clicked(browser, "#log-example")
     heard(browser)
-    typed_choice(browser, "map-address", "")
+    chosen(browser, map_address="")
     expect("equal degrees" in shown(browser, "#map-state"), shown(browser, "#map-state"))
     count += zoomed_views(browser)
     clicked(browser, "[data-map=fit]")
     chosen_spot(tries)
     seam = browser.evaluate("squitterLog.tracks.pieces(0x7C0003).map(({ joined }) => joined)")
     expect(seam == [False, True], "7C0003 is cut", seam)
-    silent(browser)
     return f"{count} views and places, {len(south)} lines near the pole"
 
 
-def typed_choice(browser: Chromium, field: str, value: str) -> None:
-    """Chooses an option of a field, and waits until the map is drawn."""
-    named = f"document.getElementById('{field}')"
-    browser.evaluate(f"{named}.value = '{value}'; {named}.dispatchEvent(new Event('change'))")
+def chosen(browser: Chromium, **fields: str) -> None:
+    """Chooses options of fields, and waits until the map is drawn."""
+    changed(browser, **fields)
     browser.evaluate("new Promise((done) => requestAnimationFrame(() => requestAnimationFrame(done)))")
 
 
@@ -604,7 +513,7 @@ def zoomed_views(browser: Chromium) -> int:
     count = 0
     views = (("north", "north pole"), ("south", "south pole"), ("mercator", "Mercator"), ("plain", "equal degrees"))
     for view, title in views:
-        typed_choice(browser, "map-view", view)
+        chosen(browser, map_view=view)
         expect(title in shown(browser, "#map-state"), view, shown(browser, "#map-state"))
         for factor in (1, 40, 4000, 1 / 1e6):
             browser.evaluate(f"squitterLog.map.zoom({factor}); squitterLog.map.draw()")
@@ -625,7 +534,7 @@ def chosen_spot(tries: Tries) -> None:
         f"(() => {{ const {{ x, y }} = {spot}; const map = squitterLog.map;"
         "map.choose(map.nearest(x + 3, y - 2)); return document.getElementById('map-spot').innerText })()"
     )
-    answers = tracked(tries.program, flights(), (10_000, 1000, SITE)).decode().splitlines()
+    answers = tracked(tries.program, flights(), NEAR).decode().splitlines()
     newest = [line for line in answers if "A00002" in line][-1]
     number, _, address, lat, lon = newest.split(" ")
     expect(told.startswith(f"{address} at {lat} {lon}, 41000 ft, 0:03:") and told.endswith(f", line {number}."), told)
@@ -634,10 +543,8 @@ def chosen_spot(tries: Tries) -> None:
 
 def played(tries: Tries) -> str:
     """The log played again: places up to the moment alone, by the button, the slider and its keys."""
-    browser = tries.page("log")
-    clicked(browser, "#log-example")
-    heard(browser)
-    answers = [line.split(b" ") for line in tracked(tries.program, flights(), (10_000, 1000, SITE)).splitlines()]
+    browser = example_page(tries)
+    answers = [line.split(b" ") for line in tracked(tries.program, flights(), NEAR).splitlines()]
     moments = [int(line.split(b" ")[0]) for line in flights().splitlines()]
     places = sorted(moments[int(number) - 1] for number, what, *_ in answers if what in (b"fix", b"followed"))
     expect(browser.evaluate("squitterLog.map.until === Infinity"), "not all is shown at first")
@@ -669,5 +576,4 @@ def played(tries: Tries) -> str:
     expect(browser.evaluate("squitterLog.map.until === Infinity"), "not all is shown at the end")
     given_log(browser, tries, b"0 " + AIR_EVEN.encode())
     expect(browser.evaluate("document.getElementById('play-button').disabled"), "nothing is played")
-    silent(browser)
     return f"{count} moments"

@@ -7,6 +7,8 @@ from trying import AIR_EVEN, SITE, TOP, bytes_of, cases, expect
 
 Settings = Tuple[int, int, Optional[Tuple[str, str]]]
 USUAL: Settings = (10_000, 1000, None)
+PIECE_BYTES = 1 << 20  # what the page reads of a file at once
+NEAR: Settings = (10_000, 1000, SITE)  # near the example's airport
 
 
 def flights() -> bytes:
@@ -46,19 +48,17 @@ def logs() -> Iterator[Tuple[str, bytes, Settings]]:
     for case in cases("log"):
         given = case["input"]
         site = given.get("site")
-        yield case["id"], "".join(f"{line}\n" for line in given["lines"]).encode(), (
-            given.get("window", 10_000),
-            given.get("limit", 1000),
-            site and (site["lat"], site["lon"]),
-        )
+        lines = "".join(f"{line}\n" for line in given["lines"]).encode()
+        yield case["id"], lines, (
+            given.get("window", 10_000), given.get("limit", 1000), site and (site["lat"], site["lon"]))
     yield from hostile_logs()
 
 
 def hostile_logs() -> Iterator[Tuple[str, bytes, Settings]]:
     rng = random.Random(64)
-    yield "flights", flights(), (10_000, 1000, SITE)
+    yield "flights", flights(), NEAR
     yield "flights with a small table", flights(), (3000, 3, None)
-    yield "damaged flights", damaged(6000), (10_000, 1000, SITE)
+    yield "damaged flights", damaged(6000), NEAR
     yield "damaged flights with a small table", damaged(6000), (700, 4, SITE)
     yield "nothing", b"", USUAL
     yield "line feeds", b"\n\n\r\n", USUAL
@@ -79,12 +79,8 @@ def hostile_logs() -> Iterator[Tuple[str, bytes, Settings]]:
 def tracked(program: str, log: bytes, settings: Settings, form: str = "lines") -> bytes:
     """What `squitter track` answers, in a format."""
     window, limit, site = settings
-    words = [
-        f"--format={form}",
-        f"--window={window}",
-        f"--limit={limit}",
-        *(f"--{name}={text}" for name, text in zip(("lat", "lon"), site or ())),
-    ]
+    words = [f"--format={form}", f"--window={window}", f"--limit={limit}",
+             *(f"--{name}={text}" for name, text in zip(("lat", "lon"), site or ()))]
     done = subprocess.run([program, "track", *words], input=log, capture_output=True)
     expect(done.returncode in (0, 1), words, done.stderr)
     return done.stdout

@@ -5,9 +5,8 @@ import re
 import subprocess
 from typing import List
 
-from logs import logs, tracked
+from logs import PIECE_BYTES, logs, tracked
 from trying import HERE, NARROW, SITE, TOP, WIDE, Tries, bytes_of, cases, expect, first_difference, read_text
-from using import silent
 
 
 def of_module(tries: Tries, *words: str, given: bytes = b"") -> bytes:
@@ -33,50 +32,26 @@ def imported(tries: Tries) -> str:
     return f"3 times 10000 lines, {of_module(tries, 'refusals').decode().strip()}"
 
 
-def tracked_by_node(tries: Tries) -> str:
-    """tests/browser/tracking.mjs: limits and states of trackers and logs, and the columns of a log beside its text."""
-    done = subprocess.run([*tries.node, f"{HERE}/tracking.mjs"], capture_output=True, text=True)
+def of_program(tries: Tries, name: str) -> str:
+    """What a program of tests/browser/ prints."""
+    done = subprocess.run([*tries.node, f"{HERE}/{name}"], capture_output=True, text=True)
     expect(done.returncode == 0, done.stderr)
     return done.stdout.strip()
+
+
+def tracked_by_node(tries: Tries) -> str:
+    """tests/browser/tracking.mjs: limits and states of trackers and logs, and the columns of a log beside its text."""
+    return of_program(tries, "tracking.mjs")
 
 
 def owners(tries: Tries) -> str:
     """tests/browser/owners.mjs: closed and refused objects, and objects without memory, touch no memory of others."""
-    done = subprocess.run([*tries.node, f"{HERE}/owners.mjs"], capture_output=True, text=True)
-    expect(done.returncode == 0, done.stderr)
-    return done.stdout.strip()
+    return of_program(tries, "owners.mjs")
 
 
 def in_workers(tries: Tries) -> str:
     """tests/browser/workers.mjs: four worker threads and the main one decode at once, each as one thread alone does."""
-    done = subprocess.run([*tries.node, f"{HERE}/workers.mjs"], capture_output=True, text=True)
-    expect(done.returncode == 0, done.stderr)
-    return done.stdout.strip()
-
-
-REFUSED = """
-import { load } from "TOP/web/squitter.js";
-import { readFileSync } from "node:fs";
-const whole = readFileSync("TOP/dist/squitter.wasm"), told = [];
-const tried = (given) => load(given).then(() => told.push("loaded"), ({ name, message }) => told.push([name, message]));
-await tried(whole);
-await tried(whole.subarray(0, -1));
-await tried(new Uint8Array(3));
-await tried(Promise.resolve(new Response("", { status: 404 })));
-console.log(JSON.stringify(told));
-"""
-
-
-def refused(tries: Tries) -> str:
-    """Node loads the module without a flag. What is no module is refused, and so is an answer that is not good."""
-    script = REFUSED.replace("TOP", TOP)
-    done = subprocess.run([*tries.node, "--input-type=module", "-e", script], capture_output=True, text=True)
-    expect(done.returncode == 0, done.stderr)
-    first, *others = json.loads(done.stdout)
-    expect(first == "loaded", first)
-    expect([name for name, _ in others] == ["CompileError", "CompileError", "Error"], others)
-    expect("404" in others[-1][1], others)
-    return f"{len(others)} sources"
+    return of_program(tries, "workers.mjs")
 
 
 # Only Python has calls of arrays: there, a call costs more than the work it asks for.
@@ -150,7 +125,7 @@ def heard_logs(tries: Tries, node: List[str], module: str) -> int:
     jobs, wanted = [], []
     for number, (name, log, settings) in enumerate(logs()):
         window, limit, site = settings
-        piece = (1 << 20, 1, 37, 64, 65, 1000)[number % 6 if len(log) < 200_000 else 0]
+        piece = (PIECE_BYTES, 1, 37, 64, 65, 1000)[number % 6 if len(log) < 200_000 else 0]
         path = f"{tries.work}/{number}.log"
         with open(path, "wb") as file:
             file.write(log)
@@ -218,5 +193,4 @@ def vectors_in_browser(tries: Tries) -> str:
     )
     for case, answer in zip(asked, got):
         expect(answer == case["answer"], case["id"], answer, case["answer"])
-    silent(browser)
     return f"{len(asked)} cases"

@@ -1,14 +1,12 @@
 /* owners.mjs: the objects of web/squitter.js in Node, closed, refused and without memory. After each of these as much
  * memory is in use as before, and all bytes of other owners are the same. Prints how many calls were tried. */
-import { readFileSync } from "node:fs";
-import { load, Code, Contact, Feed, Log, Order, Tracker } from "../../web/squitter.js";
+import { Code, Contact, Feed, Log, Order, Tracker } from "../../web/squitter.js";
+import { ENTRY_BYTES, FRAME, FRAME_BYTES, MOST_ADDRESSES, library, thrownBy, usedBy } from "./checks.mjs";
 
-const library = await load(readFileSync(new URL("../../dist/squitter.wasm", import.meta.url)));
-const { memory } = library;
-const FRAME = "8D40621D58C382D690C8AC2863A7", BYTES = library.frame(FRAME), NOWHERE = { lat: "91", lon: "0" };
+const { memory } = library, BYTES = library.frame(FRAME), NOWHERE = { lat: "91", lon: "0" };
 const LINES = `5 ${FRAME}\n`.repeat(5000), BEAST = new Uint8Array(200_000).fill(26);
-const MANY = new Array(3000).fill(5n), FRAMES = new Uint8Array(14 * 3000);
-const heard = new Tracker(library), bad = { last: 5n, entries: new Uint8Array(192).fill(255) };
+const MANY = new Array(3000).fill(5n), FRAMES = new Uint8Array(FRAME_BYTES * MANY.length);
+const heard = new Tracker(library), bad = { last: 5n, entries: new Uint8Array(ENTRY_BYTES).fill(255) };
 heard.hear(5, FRAME);
 const good = heard.save();
 let tried = 0;
@@ -23,8 +21,8 @@ const OWNERS = {
     refused: {
       take: [[5]], takeText: [[5], [LINES, 99]], finishText: [[99]],
     },
-    unmade: [{ limit: 0 }, { limit: -1 }, { limit: 2 ** 20 + 1 }, { window: -1 }, { site: NOWHERE }, { site: {} },
-      { sight: 1 }],
+    unmade: [{ limit: 0 }, { limit: -1 }, { limit: MOST_ADDRESSES + 1 }, { window: -1 }, { site: NOWHERE },
+      { site: {} }, { sight: 1 }],
   },
   Tracker: {
     make: (settings) => new Tracker(library, settings),
@@ -36,7 +34,7 @@ const OWNERS = {
       restore: [[bad], [{ last: 5n, entries: new Uint8Array(5) }], [{ last: -1, entries: good.entries }],
         [{ last: 5n, entries: "x" }], [{ last: null, entries: good.entries }]],
     },
-    unmade: [{ limit: 0 }, { limit: 2 ** 20 + 1 }, { window: "x" }, { site: NOWHERE }],
+    unmade: [{ limit: 0 }, { limit: MOST_ADDRESSES + 1 }, { window: "x" }, { site: NOWHERE }],
   },
   Contact: {
     make: (settings = {}) => new Contact(library, settings.window, settings.site),
@@ -70,18 +68,9 @@ function expect(good, ...words) {
 }
 
 /** Makes a call, or reads a property. Returns what it throws, or null. */
-function thrownBy(one, name, given) {
-  try {
-    if (given === null) void one[name];
-    else one[name](...given)?.close?.();
-  } catch (error) {
-    return error;
-  }
-  return null;
-}
+const thrownOf = (one, name, given) => thrownBy(() => given === null ? one[name] : one[name](...given)?.close?.());
 
-/** The number of bytes in use. */
-const used = () => memory.free.reduce((rest, { count }) => rest - count, memory.end);
+const used = () => usedBy(library);
 
 /** Copies the blocks that are in use, by their address. */
 function blocksInUse() {
@@ -116,19 +105,19 @@ function claimAll() {
 /** All calls of a closed object: each throws NO_TRACKER or has an empty result, and touches nothing. */
 function closedCalls(name, { make, calls }) {
   const before = used(), one = make(), behind = memory.claim(64);
-  for (const [call, given] of Object.entries(calls)) if (call !== "close") thrownBy(one, call, given);
+  for (const [call, given] of Object.entries(calls)) if (call !== "close") thrownOf(one, call, given);
   one.close();
   expect(used() === before + behind.count, name, "keeps", used() - before - behind.count, "bytes after close");
   // The memory that it had belongs to others now, all of it.
   const others = claimAll();
   for (const [call, given] of Object.entries(calls)) {
-    const thrown = changesNothing(`a closed ${name}, ${call},`, () => thrownBy(one, call, given));
+    const thrown = changesNothing(`a closed ${name}, ${call},`, () => thrownOf(one, call, given));
     const isSilent = ["close", "size", "last", "newest", "save", "copy", "header"].includes(call);
     expect(isSilent ? thrown === null : thrown?.code === Code.NO_TRACKER, `a closed ${name}, ${call}, throws`, thrown);
   }
   const next = make();
   changesNothing(`a closed ${name} that is closed again`, () => one.close());
-  expect(thrownBy(next, ...Object.entries(calls)[0]) === null, `the next ${name} fails`);
+  expect(thrownOf(next, ...Object.entries(calls)[0]) === null, `the next ${name} fails`);
   for (const block of others) memory.release(block);
   next.close();
   memory.release(behind);
@@ -139,14 +128,14 @@ function refusals(name, { make, refused, unmade }) {
   const one = make();
   for (const [call, lists] of Object.entries(refused)) {
     for (const given of lists) {
-      const before = used(), thrown = thrownBy(one, call, given);
+      const before = used(), thrown = thrownOf(one, call, given);
       expect(thrown instanceof Error, `${name}.${call} of`, given, "throws", thrown);
       expect(used() === before, `${name}.${call} of`, given, "keeps", used() - before, "bytes");
     }
   }
   one.close();
   for (const settings of unmade) {
-    const thrown = changesNothing(`a refused ${name}`, () => thrownBy({ make }, "make", [settings]));
+    const thrown = changesNothing(`a refused ${name}`, () => thrownOf({ make }, "make", [settings]));
     expect(thrown instanceof Error, `a ${name} of`, JSON.stringify(settings), "throws", thrown);
   }
 }
@@ -172,7 +161,7 @@ function withClaimRefused(number, run) {
 function failures(name, { make, calls }) {
   let number = 0;
   const isMade = () => !withClaimRefused(number, (failed) => changesNothing(`a ${name} without memory`, () => {
-    const thrown = thrownBy({ make }, "make", []);
+    const thrown = thrownOf({ make }, "make", []);
     expect(failed() === thrown instanceof RangeError, `a ${name} without claim`, number, "throws", thrown);
   }));
   do number += 1; while (!isMade());
@@ -181,7 +170,7 @@ function failures(name, { make, calls }) {
     for (let at = 1; at < 9; at++) {
       const one = make();
       withClaimRefused(at, (failed) => {
-        const before = used(), thrown = thrownBy(one, call, given);
+        const before = used(), thrown = thrownOf(one, call, given);
         if (failed()) expect(used() === before && thrown instanceof RangeError, `${name}.${call} keeps memory`, thrown);
       });
       one.close();

@@ -4,9 +4,9 @@ import re
 from typing import Any, Dict
 
 from chromium import Chromium
-from logs import USUAL, flights, tracked
-from trying import AIR_EVEN, AIR_ODD, Tries, expect, first_difference
-from using import clicked, heard, shown, silent, typed
+from logs import USUAL, flights
+from trying import AIR_EVEN, AIR_ODD, GROUND_ODD, Tries, expect
+from using import clicked, heard, heard_right, says, shown, texts_of, typed
 
 PERMISSIONS = ["clipboardReadWrite", "clipboardSanitizedWrite"]
 
@@ -21,11 +21,17 @@ def granted(browser: Chromium, *names: str) -> None:
 
 def pasted_into(browser: Chromium, selector: str, text: str) -> None:
     """Pastes a text into a field by the clipboard and the keyboard, as a person does."""
-    browser.evaluate(f"navigator.clipboard.writeText({json.dumps(text)})")
     browser.evaluate(f"document.querySelector('{selector}').focus(); document.querySelector('{selector}').select()")
+    pasted_here(browser, text)
+
+
+def pasted_here(browser: Chromium, text: str) -> None:
+    """Pastes a text where the cursor is."""
+    browser.evaluate(f"squitterLog.name = ''; navigator.clipboard.writeText({json.dumps(text)})")
     keys: Dict[str, Any] = {"key": "v", "code": "KeyV", "windowsVirtualKeyCode": 86, "modifiers": 2}
     browser.call("Input.dispatchKeyEvent", type="keyDown", commands=["paste"], **keys)
     browser.call("Input.dispatchKeyEvent", type="keyUp", **keys)
+    browser.wait("squitterLog.name === 'pasted text'")
 
 
 def pasted(tries: Tries) -> str:
@@ -43,29 +49,23 @@ def pasted(tries: Tries) -> str:
         + "".join(f"{moment / 1000:.3f},{frame[2:8].lower()},{frame.lower()}\n" for moment, frame in timed),
     }
     for name, text in texts.items():
-        browser.evaluate("squitterLog.name = ''; scrollTo(0, 0)")
+        browser.evaluate("scrollTo(0, 0)")
         pasted_into(browser, "#log-paste", text)
-        browser.wait("squitterLog.name === 'pasted text'")
-        got, wanted = heard(browser), tracked(tries.program, log.encode(), USUAL)
-        expect(got == wanted, name, first_difference(got, wanted))
-        expect(b" fix " in got, name, "has no fix")
+        wanted = heard_right(tries, log.encode(), USUAL, name)
+        expect(b" fix " in wanted, name, "has no fix")
         expect(shown(browser, "#log-state").startswith("pasted text: decoded."), shown(browser, "#log-state"))
         expect(browser.evaluate("document.activeElement.id") == "log-paste", name, "moves the focus")
     pasted_again(browser, texts["CSV"], wanted)
     untimed = "".join(f"*{frame};\n" for _, frame in timed[:10])
-    browser.evaluate("squitterLog.name = ''")
     pasted_into(browser, "#log-paste", untimed)
-    browser.wait("squitterLog.name === 'pasted text'")
-    got, state = heard(browser), shown(browser, "#log-state")
-    expect(got == tracked(tries.program, untimed.encode(), USUAL) and "No line has a timestamp." in state, state)
+    heard_right(tries, untimed.encode())
+    says(browser, "No line has a timestamp.")
     browser.evaluate("squitterLog.name = ''; document.getElementById('log-paste').select()")
     browser.call("Input.insertText", text=f"1 {AIR_EVEN}\n500 {AIR_ODD}")
     expect(browser.evaluate("squitterLog.name") == "", "text is decoded while it is typed")
     browser.evaluate("document.getElementById('log-paste').blur()")
     browser.wait("squitterLog.name === 'pasted text'")
-    got = heard(browser)
-    expect(got == tracked(tries.program, f"1 {AIR_EVEN}\n500 {AIR_ODD}".encode(), USUAL) and b" fix " in got, got)
-    silent(browser)
+    expect(b" fix " in heard_right(tries, f"1 {AIR_EVEN}\n500 {AIR_ODD}".encode()), "no fix")
     return f"{len(texts)} formats, text without times, and typed text"
 
 
@@ -74,7 +74,6 @@ def pasted_again(browser: Chromium, text: str, wanted: bytes) -> None:
     clicked(browser, "#log-example")
     heard(browser)
     pasted_into(browser, "#log-paste", text)
-    browser.wait("squitterLog.name === 'pasted text'")
     expect(heard(browser) == wanted, "the same text pasted again")
     browser.evaluate("squitterLog.name = ''; document.getElementById('log-paste').blur()")
     expect(browser.evaluate("squitterLog.name") == "", "pasted text is decoded again as its field is left")
@@ -101,20 +100,13 @@ def pasted_over(tries: Tries) -> str:
     browser.evaluate(TIMED_PASTES)
     for first in (1000, 2000):
         log = "".join(f"{first + number} {AIR_EVEN}\n" for number in range(6000))
-        browser.evaluate("squitterLog.name = ''")
         pasted_into(browser, "#log-paste", log)
-        browser.wait("squitterLog.name === 'pasted text'")
         expect(heard(browser).startswith(b"1 waiting "), "no answers")
         expect(browser.evaluate(f"{field}.value") == log, "the field has another text")
     before, after = browser.evaluate("window.pastes")
     expect(after < 5 * before + 500, "pasted over a log takes", after, "ms, and at first", before)
     browser.evaluate(f"{field}.value = 'one\\ntwo\\nthree'; {field}.focus(); {field}.setSelectionRange(4, 7)")
-    browser.evaluate(f"navigator.clipboard.writeText('5 {AIR_ODD}')")
-    browser.evaluate("squitterLog.name = ''")
-    keys: Dict[str, Any] = {"key": "v", "code": "KeyV", "windowsVirtualKeyCode": 86, "modifiers": 2}
-    browser.call("Input.dispatchKeyEvent", type="keyDown", commands=["paste"], **keys)
-    browser.call("Input.dispatchKeyEvent", type="keyUp", **keys)
-    browser.wait("squitterLog.name === 'pasted text'")
+    pasted_here(browser, f"5 {AIR_ODD}")
     heard(browser)
     got = browser.evaluate(f"[{field}.value, {field}.selectionStart, {field}.selectionEnd]")
     expect(got == [f"one\n5 {AIR_ODD}\nthree", 34, 34], got)
@@ -123,7 +115,6 @@ def pasted_over(tries: Tries) -> str:
         f"const event = new ClipboardEvent('paste', {{ clipboardData, cancelable: true, bubbles: true }});"
         f"return [{field}.dispatchEvent(event), {field}.value.length]; }})()")
     expect(got == [True, 40], got)
-    silent(browser)
     return f"6000 lines over 6000 in {after:.0f} ms, at first in {before:.0f} ms"
 
 
@@ -160,7 +151,6 @@ def copied(tries: Tries) -> str:
     tops = browser.evaluate("[...document.querySelectorAll('#send-answer .card')].map((one) => "
                             "one.getBoundingClientRect().top)")
     expect(frames[0] != frames[1] and tops[0] == tops[1], "the frames are not side by side:", frames, tops)
-    silent(browser)
     return "two frames in three ways"
 
 
@@ -181,7 +171,7 @@ CUT = """[...document.querySelectorAll('main *')].filter((one) => {
 
 STATES = (
     ("frame", "[data-frame='8D40621D58C382D690C8AC2863A7']"),
-    ("frame", "[data-frame='8C4841753A8A35323FAEBDAC702D']"),
+    ("frame", f"[data-frame='{GROUND_ODD}']"),
     ("frame", "[data-frame='8D4840D6202CC371C32CE0576098']"),
     ("frame", "[data-frame='8D40621D58C382D690C8AC2863A6']"),
     ("frame", "[data-frame^='*']"),
@@ -220,14 +210,11 @@ def phone(tries: Tries) -> str:
         tops = browser.evaluate("[...document.querySelectorAll('[role=tab]')].map((one) => "
                                 "[one.getBoundingClientRect().top, one.getBoundingClientRect().height])")
         expect(len({top for top, _ in tops}) == 1 and max(high for _, high in tops) < 60, "tabs at", tops)
-    silent(browser)
     return f"{count} states"
 
 
-FORMS = (
-    ("pair", "Older frame", "Newer frame", "Latitude of your receiver"),
-    ("local", None, "Frame", "Latitude of the reference"),
-)
+FORMS = (("pair", "Older frame", "Newer frame", "Latitude of your receiver"),
+         ("local", None, "Frame", "Latitude of the reference"))
 
 
 def place_form(tries: Tries) -> str:
@@ -245,12 +232,6 @@ def place_form(tries: Tries) -> str:
         left, right = browser.evaluate("['svg', 'table'].map((name) => document.querySelector(`#place-answer ${name}`)"
                                        ".getBoundingClientRect().top)")
         expect(left <= right + 1, way, "has the picture below the numbers")
-    typed(browser, place_lat="", place_lon="")
-    clicked(browser, "[name=place-from][value=pair]")
-    typed(browser, place_older="8C4841753AAB238733C8CD4020B1", place_newer="8C4841753A8A35323FAEBDAC702D")
-    said = shown(browser, "#place-answer")
-    expect("no site" in said and "Type the position of your receiver." in said, said)
-    silent(browser)
     return f"{len(FORMS)} modes"
 
 
@@ -286,8 +267,6 @@ def picture_labels(tries: Tries) -> str:
             labels, found = browser.evaluate(f"{OVERLAPS}('{picture}')")
             expect(found == [], picture, "of", lat, lon, "has labels that overlap:", found)
             count += labels
-        near = browser.evaluate("[...document.querySelectorAll('#send-near text:not(.way-label)')].map((one) => "
-                                "one.textContent)")
+        near = texts_of(browser, "#send-near text:not(.way-label)")
         expect(near == ["even", "odd"], lat, lon, "has the labels", near)
-    silent(browser)
     return f"{count} labels"

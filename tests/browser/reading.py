@@ -4,7 +4,7 @@ from typing import Any, List
 
 from chromium import Chromium
 from trying import AIR_EVEN, Tries, expect
-from using import clicked, heard, pressed, shown, silent, typed
+from using import clicked, given_file, pressed, shown, typed
 
 # Keeps what the state of the log says, and whether it is read aloud.
 STATES = """{
@@ -52,7 +52,6 @@ def read_aloud(tries: Tries) -> str:
         browser.wait(f"document.querySelector('{copy}').textContent === {json.dumps(text)}")
         expect(accessible(browser, copy)[1] == f"{text} {more}", accessible(browser, copy))
         browser.wait(f"document.querySelector('{copy}').textContent === 'Copy'")
-    silent(browser)
     return f"{len(rows) + 3} answers, {log_aloud(tries)} states of a log"
 
 
@@ -61,12 +60,8 @@ def log_aloud(tries: Tries) -> int:
     browser, path = tries.page("log"), f"{tries.work}/aloud.log"
     role, name, description = accessible(browser, "#map")
     expect((role, name) == ("application", "Map") and "Enter reads the position" in description, role, description)
-    with open(path, "w", encoding="ascii") as file:
-        file.writelines(f"{moment} {AIR_EVEN}\n" for moment in range(80_000))
     browser.evaluate(STATES)
-    browser.give("#log-file", path)
-    browser.wait("squitterLog.name === 'aloud.log'")
-    heard(browser)
+    given_file(browser, path, "".join(f"{moment} {AIR_EVEN}\n" for moment in range(80_000)).encode())
     first, *counts, last = browser.evaluate("statesTold")
     expect(first == ["polite", "Decoding aloud.log."], first)
     expect(len(counts) > 1 and all(live == "off" and text.endswith("results.") for live, text in counts), counts)
@@ -81,5 +76,4 @@ def log_aloud(tries: Tries) -> int:
     # Each output is a status by itself, and the moment of a replay changes with each picture.
     others = browser.evaluate("[...document.querySelectorAll('output')].map((one) => one.ariaLive)")
     expect(others == ["off"], "outputs that are read aloud:", others)
-    silent(browser)
     return len(counts) + 2

@@ -2,38 +2,22 @@
  * its text. Prints how many tests passed. */
 import { readFileSync } from "node:fs";
 import {
-  load, AirHead, Code, Contact, Fault, Feed, Format, GroundHead, Log, Order, Tracker, What,
+  load, AirHead, Code, Contact, Feed, Format, GroundHead, Log, Order, Tracker, What,
 } from "../../web/squitter.js";
+import {
+  COLUMN_ROOM, ENTRY_BYTES, FLIGHTS, FRAME, MODULE, MOST_ADDRESSES, PAGE_BYTES, about, codeOf, errorOf, library,
+  numbersTo, same, thrownBy,
+} from "./checks.mjs";
 
-const MODULE = readFileSync(new URL("../../dist/squitter.wasm", import.meta.url));
 const VIEW = new DataView(MODULE.buffer, MODULE.byteOffset, MODULE.byteLength);
-const library = await load(MODULE), blank = await load(VIEW), full = await load(MODULE);
-const FLIGHTS = readFileSync(new URL("../../examples/flights.log", import.meta.url));
+const blank = await load(VIEW), full = await load(MODULE), HERE = { lat: 52.31, lon: 4.76 };
 const WORKED = readFileSync(new URL("../worked/track.txt", import.meta.url), "utf8");
-const FRAME = "8D40621D58C382D690C8AC2863A7", HERE = { lat: 52.31, lon: 4.76 };
-
-function same(got, wanted, what) {
-  const [one, other] = [got, wanted].map((value) => JSON.stringify(value, (_, part) => typeof part === "bigint"
-    ? `${part}n` : part));
-  if (one !== other) throw new Error(`${what} gives ${one} where ${other} is wanted`);
-}
-
-/** The code of the fault that a call throws, or null. */
-function codeOf(call) {
-  try {
-    call();
-  } catch (error) {
-    if (error instanceof Fault) return error.code;
-    throw error;
-  }
-  return null;
-}
 
 const frameOf = (address, odd = 0) => library.frameText(library.encode(new AirHead({ address, odd }), HERE));
 
 /** By default 1000 aircraft fit, and the next one does not; so they do with this limit. */
 function limits() {
-  const frames = Array.from({ length: 1001 }, (_, at) => frameOf(at + 1));
+  const frames = numbersTo(1001).map((at) => frameOf(at + 1));
   for (const [settings, most] of [[{}, 1000], [{ limit: 1000 }, 1000], [{ limit: 3 }, 3], [{ limit: 3n }, 3]]) {
     const tracker = new Tracker(library, settings), log = new Log(library, settings);
     const codes = frames.slice(0, most + 1).map((frame) => codeOf(() => tracker.hear(5, frame)));
@@ -98,7 +82,7 @@ function testHeaders(log) {
 
 /** A text has the answers of all lines, though a part of a piece has more of them than the memory holds at once. */
 function longAnswers() {
-  for (const count of [1, 10_000, 32_768, 32_769, 100_000]) {
+  for (const count of [1, 10_000, ...about(COLUMN_ROOM), 100_000]) {
     const log = new Log(library), told = log.takeText("x\n".repeat(count)).split("\n");
     same([told.length, told.pop()], [count + 1, ""], "lines");
     const wrong = told.findIndex((line, at) => line !== `${at + 1} bad moment`);
@@ -150,38 +134,24 @@ function ownBytes() {
   // Frames of 10.4704 and 10.4706 degrees: NL changes from 59 to 58 between them.
   const [older, newer] = [10.4704, 10.4706].map((lat, odd) =>
     library.encode(new AirHead({ address: 1, odd }), { lat, lon: 20 }));
-  let told = null;
-  try {
-    library.pair(older, newer);
-  } catch (error) {
-    told = JSON.parse(JSON.stringify(error));
-  }
+  const told = JSON.parse(JSON.stringify(thrownBy(() => library.pair(older, newer))));
   same([told.code, told.first, told.second], [Code.ZONE_COUNTS, "59", 58], "the JSON of a split");
 }
 
-/** Memory grows by a block that starts at its end; a block that others have used is no tracker; a log that is closed
- * writes nothing. */
+/** Memory grows by a block that starts at its end; a block that others have used is no tracker. */
 function sharedMemory() {
   const { memory } = library, end = memory.exports.memory.buffer.byteLength;
   memory.free = [];
   memory.claim(end - memory.end);
   const next = memory.claim(16);
   same([next.at, memory.bytesAt(next.at, 16).length], [end, 16], "a block behind the memory");
-  same(memory.exports.memory.buffer.byteLength, end + 65_536, "a memory that grows by one page");
+  same(memory.exports.memory.buffer.byteLength, end + PAGE_BYTES, "a memory that grows by one page");
   for (const [name, kind] of [["tracker", Tracker], ["log", Log]]) {
     const used = memory.claim(16 + Number(memory.exports[`squitter_${name}_size`](1000)));
     memory.bytesAt(used.at, used.count).fill(255);
     memory.release(used);
     same(codeOf(() => new kind(library, { site: { lat: 91, lon: 0 } })), Code.BAD_POSITION, name);
   }
-  const log = new Log(library), closed = new Log(library);
-  closed.close();
-  const others = [1 << 16, 1 << 18].map((count) => memory.claim(count));
-  for (const { at, count } of others) memory.bytesAt(at, count).fill(7);
-  same(codeOf(() => closed.take(`5 ${FRAME}\n`)), Code.NO_TRACKER, "a closed log");
-  same(codeOf(() => closed.takeText(`5 ${FRAME}\n`)), Code.NO_TRACKER, "a closed log");
-  for (const { at, count } of others) same(memory.bytesAt(at, count).every((byte) => byte === 7), true, "its memory");
-  same(log.takeText(`5 ${FRAME}\n`), "1 waiting 40621D\n", "another log");
 }
 
 /** By default a gap above ten minutes is a jump. */
@@ -201,7 +171,7 @@ function firstMoment() {
     same([tracker.last, tracker.save().last, tracker.copy().save().last], [0n, 0n, 0n], "a frame at 0");
     tracker.hear(7, FRAME);
     const { last, entries } = tracker.save();
-    same([last, entries.length, tracker.copy().last], [7n, 192, 7n], "a frame at 7");
+    same([last, entries.length, tracker.copy().last], [7n, ENTRY_BYTES, 7n], "a frame at 7");
     same(codeOf(() => tracker.copy().hear(6, FRAME)), Code.MOMENT_BACK, "an earlier frame");
   }
 }
@@ -214,8 +184,8 @@ function memoryUsedAgain() {
     tracker.hear(5, frameOf(address));
     tracker.save();
   }
-  // The largest state has 192 bytes for each of 1000 aircraft, and 16 more.
-  same(memory.end - before <= 192_016, true, "states of up to 1000 aircraft");
+  // The largest state, of 1000 aircraft, has 16 bytes more than their entries.
+  same(memory.end - before <= 1000 * ENTRY_BYTES + 16, true, "states of up to 1000 aircraft");
   const large = 16 + Number(memory.exports.squitter_tracker_size(100_000)), logs = [new Log(blank)];
   for (let round = 0; round < 3; round++) {
     new Tracker(blank, { limit: 100_000 }).close();
@@ -241,14 +211,7 @@ function memoryUsedAgain() {
 /** A claim beyond the memory is a RangeError, and changes nothing. */
 function memoryExhausted() {
   const { memory } = blank, end = memory.end;
-  const refused = (count) => {
-    try {
-      memory.claim(count);
-    } catch (error) {
-      return error instanceof RangeError;
-    }
-    return false;
-  };
+  const refused = (count) => thrownBy(() => memory.claim(count)) instanceof RangeError;
   for (const count of [2 ** 36, 2 ** 40, 2 ** 45]) same([refused(count), memory.end], [true, end], `${count} bytes`);
   const pages = memory.exports.memory.buffer.byteLength - end + 16;
   memory.grow = () => { throw new RangeError("no more pages"); };
@@ -262,17 +225,12 @@ function memoryExhausted() {
 /** The memory ends at 4 GiB. What lies just below works; a claim across the end is refused by name, and changes
  * nothing. The system commits only the pages that are written. */
 function memoryEnd() {
-  const { memory } = full, end = 2 ** 32, first = memory.end, pages = memory.exports.memory.buffer.byteLength / 65_536;
-  const told = (count) => {
-    try {
-      return memory.claim(count).at;
-    } catch (error) {
-      return String(error);
-    }
-  };
+  const { memory } = full, end = 2 ** 32, first = memory.end;
+  const pages = memory.exports.memory.buffer.byteLength / PAGE_BYTES;
+  const told = (count) => errorOf(() => memory.claim(count));
   const refused = (lack) => `RangeError: the library's memory ends at 4 GiB, and cannot grow by ${lack} pages`;
-  same(told(end - first + 1), refused(65_537 - pages), "a claim across the end");
-  same([memory.end, memory.exports.memory.buffer.byteLength], [first, 65_536 * pages], "and memory after it");
+  same(told(end - first + 1), refused(PAGE_BYTES + 1 - pages), "a claim across the end");
+  same([memory.end, memory.exports.memory.buffer.byteLength], [first, PAGE_BYTES * pages], "and memory after it");
   const before = new Log(full), taken = memory.end - first;
   before.close();
   const below = memory.claim(end - first - taken), log = new Log(full), answers = log.takeText(FLIGHTS);
@@ -299,13 +257,9 @@ function roomsExhausted() {
       memory.release(rest);
       const kept = memory.claim(at - memory.end - wanted);
       memory.grow = () => { throw new RangeError("no more pages"); };
-      try {
-        make().close();
-        rooms.push(true);
-      } catch (error) {
-        same(error instanceof RangeError, true, `${name} with ${spare} bytes`);
-        rooms.push(false);
-      }
+      const thrown = thrownBy(() => make().close());
+      same(thrown === null || thrown instanceof RangeError, true, `${name} with ${spare} bytes`);
+      rooms.push(thrown === null);
       delete memory.grow;
       same([memory.end, memory.free.length], [kept.at + kept.count, 0], `${name} with ${spare} bytes`);
       memory.release(kept);
@@ -317,14 +271,7 @@ function roomsExhausted() {
 /** A format, an index or a site of a wrong kind is refused, and not taken for another one. */
 function otherKinds() {
   const log = new Log(library), tracker = new Tracker(library), line = `5 ${FRAME}\n`;
-  const isTypeError = (call) => {
-    try {
-      call();
-    } catch (error) {
-      return error instanceof TypeError;
-    }
-    return false;
-  };
+  const isTypeError = (call) => thrownBy(call) instanceof TypeError;
   for (const format of ["csv", "1", 1.5, true, null, {}]) {
     for (const call of [() => log.takeText(line, format), () => log.finishText(format), () => log.header(format)])
       same(isTypeError(call), true, `${call} with ${JSON.stringify(format)}`);
@@ -349,25 +296,12 @@ function otherKinds() {
 function edges() {
   const tracker = new Tracker(library);
   blank.memory.claim = () => { throw new Error("claims"); };
-  for (const kind of [Log, Tracker]) {
-    let told = "";
-    try {
-      new kind(blank, { limit: 2 ** 20 });
-    } catch (error) {
-      told = error.message;
-    }
-    same(told, "claims", "the largest limit");
-  }
+  for (const kind of [Log, Tracker])
+    same(errorOf(() => new kind(blank, { limit: MOST_ADDRESSES })), "Error: claims", "the largest limit");
   delete blank.memory.claim;
-  for (const count of [1, 96, 190, 194]) {
-    let told = "";
-    try {
-      tracker.restore({ last: null, entries: new Uint8Array(count) });
-    } catch (error) {
-      told = `${error.name}: ${error.message}`;
-    }
-    same(told, "RangeError: an entry has 192 bytes", `entries of ${count} bytes`);
-  }
+  for (const count of [1, 96, ENTRY_BYTES - 2, ENTRY_BYTES + 2])
+    same(errorOf(() => tracker.restore({ last: null, entries: new Uint8Array(count) })),
+      "RangeError: an entry has 192 bytes", `entries of ${count} bytes`);
 }
 
 const tests = [limits, largeNumbers, afterFinish, columnsBesideText, longAnswers, sitesOfTheirOwn, sitesOfTexts,

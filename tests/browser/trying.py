@@ -15,9 +15,10 @@ TOP = os.path.dirname(os.path.dirname(HERE))
 
 INDEX = f"file://{TOP}/web/index.html"
 SITE = ("52.31", "4.76")
-AIR_EVEN = "8D40621D58C382D690C8AC2863A7"
+AIR_EVEN, AIR_ODD = "8D40621D58C382D690C8AC2863A7", "8D40621D58C386435CC412692AD6"
+GROUND_EVEN, GROUND_ODD = "8C4841753AAB238733C8CD4020B1", "8C4841753A8A35323FAEBDAC702D"
+POLE_EVEN, POLE_ODD = "8D43029E58C3850001C89AEDB595", "8D43029E58C3800001C89AE29463"  # at the south pole
 NARROW, WIDE = "squitter.wasm", "squitter64.wasm"  # the module with 32-bit memory, and what it is made from
-AIR_ODD = "8D40621D58C386435CC412692AD6"
 
 
 class Failed(Exception):
@@ -71,9 +72,7 @@ class Tries:
     @property
     def wide_node(self) -> List[str]:
         """node, with the flag that it may want for the 64-bit memory of dist/squitter64.wasm."""
-        module = (
-            f"WebAssembly.compile(require('fs').readFileSync('{TOP}/dist/{WIDE}')).catch(() => process.exit(3))"
-        )
+        module = (f"WebAssembly.compile(require('fs').readFileSync('{TOP}/dist/{WIDE}')).catch(() => process.exit(3))")
         for words in (self.node, [*self.node, "--experimental-wasm-memory64"]):
             if subprocess.run([*words, "-e", module], capture_output=True).returncode == 0:
                 return words
@@ -88,10 +87,17 @@ class Tries:
             self.open.call("Browser.setDownloadBehavior", behavior="allow", downloadPath=self.work)
         return self.open
 
+    def silent(self) -> None:
+        """Fails if the console of the browser has said something since the last call."""
+        if self.open:
+            self.open.evaluate("new Promise((done) => setTimeout(done, 50))")
+            problems, self.open.problems = self.open.problems, []
+            expect(not problems, "the console says", problems)
+
     def page(self, panel: str = "frame", address: str = INDEX) -> chromium.Chromium:
         """The page, opened anew on a panel."""
         browser = self.browser
-        browser.look(1100, 900, False)
+        browser.look()
         browser.open(f"{address}#{panel}")
         return browser
 

@@ -8,10 +8,9 @@ import zlib
 from typing import Iterator, List, Optional, Tuple
 
 from chromium import Chromium
-from logs import USUAL, flights, tracked
-from log_panel import given_file
+from logs import PIECE_BYTES, flights
 from trying import Tries, expect
-from using import heard, shown, silent
+from using import given_file, heard_right, says
 
 # Unpacks a file as the worker of a log does. Returns its text, or null if it is refused as damaged.
 UNPACKED = """((packed) => {
@@ -21,8 +20,6 @@ UNPACKED = """((packed) => {
     return null;
   });
 })"""
-
-PIECE_BYTES = 1 << 20
 
 
 def stored(data: bytes) -> bytes:
@@ -91,26 +88,20 @@ def members(tries: Tries) -> str:
     browser, rows = tries.page("log"), [*joined(random.Random(7)), *at_pieces()]
     for name, packed, wanted in rows:
         got = browser.evaluate(f"{UNPACKED}({json.dumps(base64.b64encode(packed).decode())})")
-        if wanted is None:
-            expect(got is None, name, "is not refused")
-        else:
-            expect(got is not None and got.encode("utf-8", "replace") == wanted.decode("utf-8", "replace").encode(),
-                   name, "is unpacked to", repr(got)[:99])
+        expect(got == (wanted if wanted is None else wanted.decode("utf-8", "replace")), name, "gives", repr(got)[:99])
     count = many_members(tries, browser)
-    silent(browser)
     return f"{len(rows)} files, {count} members"
 
 
 def many_members(tries: Tries, browser: Chromium) -> int:
     """Joined hourly files and small blocks give the results of their log, in a time linear in their number."""
     log, path = flights(), f"{tries.work}/joined"
-    wanted = tracked(tries.program, log, USUAL)
     half = log.index(b"\n", len(log) // 2) + 1
     given_file(browser, f"{path}.hours.gz", gzip.compress(log[:half]) + gzip.compress(log[half:]))
-    expect(heard(browser) == wanted, "two hours")
+    heard_right(tries, log)
     blocks = b"".join(gzip.compress(log[at : at + 100], 1) for at in range(0, len(log), 100)) + gzip.compress(b"")
     given_file(browser, f"{path}.blocks.gz", blocks)
-    expect(heard(browser) == wanted, "blocks")
+    heard_right(tries, log)
     # By the least of the processor's times, which other work hardly changes: four times as many members take four times
     # as long, and would take sixteen times if each looked at all others.
     least: List[float] = []
@@ -129,5 +120,5 @@ def many_members(tries: Tries, browser: Chromium) -> int:
     got = browser.evaluate(f"{UNPACKED}({json.dumps(large)}).then((text) => [text.length, text.replaceAll('0', '')])")
     expect(got == [2**25 + 10, "1234512345"], "32 MiB:", got)
     given_file(browser, f"{path}.cut.gz", blocks[:-9])
-    expect("(its gzip data is damaged or ends early)" in shown(browser, "#log-state"), shown(browser, "#log-state"))
+    says(browser, "(its gzip data is damaged or ends early)")
     return len(range(0, len(log), 100)) + 1

@@ -5,10 +5,11 @@ import math
 from typing import Any, List, Sequence, Tuple
 
 from chromium import Chromium
-from trying import AIR_EVEN, AIR_ODD, Tries, expect
-from using import clicked, shown, silent, typed
+from trying import AIR_EVEN, AIR_ODD, GROUND_EVEN, GROUND_ODD, Tries, expect
+from using import clicked, says, shown, texts_of, typed, value_of
 
 Rows = Sequence[Tuple[str, Any]]
+STEPS, METRES = 1 << 17, 111195  # of a zone, each way; of a degree of a great circle, rounded
 
 
 def compared(browser: Chromium, rows: Rows, before: str = "") -> int:
@@ -125,14 +126,6 @@ tracks.addPlace(2, 0, 60, 0, 2, Kind.AIR);
 tracks.addPlace(3, -90, -80, 0, 3, Kind.AIR)"""
 
 
-def projections(tries: Tries) -> str:
-    """Degrees as points of each plane, grids of lines with their labels, and which projection suits a log."""
-    browser = tries.page("log")
-    count = compared(browser, PROJECTED, POLAR_TRACKS)
-    silent(browser)
-    return f"{count} values"
-
-
 # A map of 400 by 200 points with a box of 10 by 10 in it.
 ONE_BOX = "const places = new LabelPlaces(400, 200); places.block({ x: 40, y: 20, wide: 10, high: 10 })"
 
@@ -162,15 +155,6 @@ LABELLED: Rows = (
       {"x": 190, "y": 109, "wide": 20, "high": 14}, {"x": 190, "y": 77, "wide": 20, "high": 14}, None]),
     ("places.beside(395, 100, 20, 14).x", 366),
 )
-
-
-def label_places(tries: Tries) -> str:
-    """Labels keep two points apart and stay within the map; one stands to the right of its mark, or to the left, below
-    or above."""
-    browser = tries.page("log")
-    count = compared(browser, LABELLED, ONE_BOX)
-    silent(browser)
-    return f"{count} boxes"
 
 
 # Tracks of a window of a second. Aircraft 1 is cut by its kind, by silence and at 180 degrees; 2 has one position.
@@ -216,10 +200,9 @@ TRACKED: Rows = (
     *((f"({lons}.forEach((lon, at) => place(4, lon, lon / 2, at, at, 1)), tracks.bounds(4))",
        {"west": -3, "east": 2, "south": -1.5, "north": 1}) for lons in ("[2, 1, -3]", "[-3, 1, 2]", "[1, -3, 2]")),
     # columns that have grown
-    ("(() => { for (let at = 0; at < 40; at++) place(5, at, -at, 100 + at, 1000 + at, 1);"
-     "const [{ lons, lats, moments, lines, room }] = tracks.pieces(5); return [lons, lats, moments, "
-     "lines].map((column) "
-     "=> [column.length, column[0], column[7], column[8], column[39], column.reduce((sum, one) => sum + one)]) })()",
+    ("(() => { for (let at = 0; at < 40; at++) place(5, at, -at, 100 + at, 1000 + at, 1);const [{ lons, lats, moments, "
+     "lines, room }] = tracks.pieces(5); return [lons, lats, moments, lines].map((column) => [column.length, "
+     "column[0], column[7], column[8], column[39], column.reduce((sum, one) => sum + one)]) })()",
      [[40, 0, 7, 8, 39, 780], [40, 0, -7, -8, -39, -780], [40, 100, 107, 108, 139, 4780],
       [40, 1000, 1007, 1008, 1039, 40_780]]),
     ("(() => { const piece = new Piece(false, 1); [0, 500, 500, 1000].forEach((at) => piece.add(0, 0, at, 0));"
@@ -233,14 +216,6 @@ TRACKED: Rows = (
      "numbers: [11, 12, 13, 14, 15] }), [...tracks.all.get(9).pieces[0].moments, tracks.count(), "
      "tracks.newest(9).line])", [12_884_901_893, 12_884_901_894, 10, 13]),
 )
-
-
-def tracks_in_pieces(tries: Tries) -> str:
-    """Where tracks are cut, their bounds, their positions up to a moment, and their GeoJSON."""
-    browser = tries.page("log")
-    count = compared(browser, TRACKED, CUT_TRACKS)
-    silent(browser)
-    return f"{count} values"
 
 
 # Eight results in three pieces, one of which is empty.
@@ -284,12 +259,14 @@ LISTED: Rows = (
 )
 
 
-def listed_answers(tries: Tries) -> str:
-    """The counts of results in several pieces, their rows, the altitude of a line, and a filter."""
-    browser = tries.page("log")
-    count = compared(browser, LISTED, ANSWERED)
-    silent(browser)
-    return f"{count} values"
+# Degrees as points of each plane, grids of lines with their labels, and which projection suits a log; labels that keep
+# two points apart, within the map; where tracks are cut, their bounds, positions and GeoJSON; the results of a log.
+TABLES = ((PROJECTED, POLAR_TRACKS), (LABELLED, ONE_BOX), (TRACKED, CUT_TRACKS), (LISTED, ANSWERED))
+
+
+def tables_of_values(tries: Tries) -> str:
+    """What functions of the page return, in each table beside values that are worked out by hand."""
+    return f"{sum(compared(tries.page('log'), rows, before) for rows, before in TABLES)} values"
 
 
 NOT_DECODED = "(not decoded)"
@@ -305,7 +282,7 @@ FIELDS = (
         ["altitude", "41-52", "C38", "38000 feet"], *PLACE_FIELDS, ["F, parity", "54", "0", "even format"],
         ["latitude code", "55-71", "93000", IN_ZONE], ["longitude code", "72-88", "51372", IN_ZONE],
         ["PI, parity", "89-112", "2863A7", "the remainder is 000000: no bit is damaged"]]),
-    ("8C4841753A8A35323FAEBDAC702D", [
+    (GROUND_ODD, [
         ["DF, downlink format", "1-5", "17", "extended squitter"],
         ["CA, capability", "6-8", "4", f"capability of the transponder {NOT_DECODED}"],
         ["AA, address", "9-32", "484175", "ICAO address"], ["type code", "33-37", "7", "surface position"],
@@ -331,19 +308,22 @@ FIELDS = (
         ["AA, address", "9-32", "0621DA", ""], ["ME, message", "33-88", "58C382D690C8AC", ""],
         ["PI, parity", "89-112", "286001", ""]]),
 )
-ANSWER_CELLS = ("[...document.querySelectorAll('#{0} tbody tr')].map((row) => [...row.cells].map((one) => "
-                "one.textContent))")
-
+ANSWER_CELLS = ("[...document.querySelectorAll('#{0} tbody tr')].map((row) => "
+                "[...row.cells].map((one) => one.textContent))")
 # The names of the runs of bits with their titles and bits.
 RUNS = ("[...document.querySelectorAll('#frame-answer .run')].map((run) => [run.className, run.title, "
         "...[...run.children].map((one) => one.textContent)])")
 
-MARKED = (
-    ("*8D40621D58C382D690G8AC2863A7;", "Character 20 is not a hexadecimal digit.", 19),
-    ("8D40621D58C382D690G8AC2863A7", "Character 19 is not a hexadecimal digit.", 18),
-    ("G" + AIR_EVEN[1:], "Character 1 is not a hexadecimal digit.", 0),
-    (f"*{AIR_EVEN}", "A frame has * before it and ; after it, or neither. One is missing at the mark.", 29),
-    (f"{AIR_EVEN};", "A frame has * before it and ; after it, or neither. One is missing at the mark.", 0),
+LACKING = "A frame has * before it and ; after it, or neither. One is missing at the mark."
+FAULTS = (
+    # the text, what is said of it, and the index of the character that is marked
+    (f"*{AIR_EVEN[:7]}G{AIR_EVEN[8:]};", "bad digit 8", "Character 9 is not a hexadecimal digit.", 8),
+    ("*8D40621D58C382D690G8AC2863A7;", "bad digit", "Character 20 is not a hexadecimal digit.", 19),
+    ("8D40621D58C382D690G8AC2863A7", "bad digit", "Character 19 is not a hexadecimal digit.", 18),
+    ("G" + AIR_EVEN[1:], "bad digit", "Character 1 is not a hexadecimal digit.", 0),
+    (f"*{AIR_EVEN}", "bad wrapping", LACKING, 29), (f"{AIR_EVEN};", "bad wrapping", LACKING, 0),
+    (f"{AIR_EVEN[:-1]}6", "parity 000001", "the remainder is 000001", None), ("<b>", "bad length 3", "", None),
+    ("", "bad length 0", "", None), ("5D40621D58C382", "short frame", "", None),
 )
 
 
@@ -365,12 +345,17 @@ def frame_tables(tries: Tries) -> str:
                             FIELDS):
         typed(browser, frame_text=wanted[0])
         expect(browser.evaluate("document.querySelector('#frame-answer .answer').textContent") == head, head)
-    for text, said, at in MARKED:
+    for text, words, said, at in FAULTS:
         typed(browser, frame_text=text)
-        marked = browser.evaluate("document.querySelector('#frame-answer .marked').textContent")
-        expect(marked == f"{text[:at]}{text[at:at + 1] or ' '}{text[at + 1:]}{' ' * at}^", text, repr(marked))
+        says(browser, words, said, of="#frame-answer")
+        marked = texts_of(browser, "#frame-answer mark") + texts_of(browser, "#frame-answer .marked")
+        if at is None:
+            expect(marked == [], text, "marks", marked)
+            continue
+        mark = text[at:at + 1] or " "
+        expect(marked == [mark, f"{text[:at]}{mark}{text[at + 1:]}{' ' * at}^"], text, marked)
         expect(shown(browser, "#frame-answer").endswith(said), text, shown(browser, "#frame-answer"))
-    clicked(browser, "[data-frame='8C4841753A8A35323FAEBDAC702D']")
+    clicked(browser, f"[data-frame='{GROUND_ODD}']")
     expect(shown(browser, "#frame-answer").startswith("484175: surface"), "an example is not shown at once")
     count = compared(browser, (
         ("[ROWS[0][1].value({ address: 0xAB }), ROWS[0][3].value({ raw: 0xABn })]", ["0000AB", "ME 000000000000AB"]),
@@ -379,34 +364,29 @@ def frame_tables(tries: Tries) -> str:
         ("ROWS[2].find(({ name }) => name === 'track status').means({ trackStatus: 0 })", "the track is not valid"),
         ("ROWS[1].find(({ name }) => name === 'T, time').number({ time: 1, odd: 0 })", 1),
     ))
-    silent(browser)
-    return f"{len(FIELDS)} tables, {len(MARKED)} marks, {count} meanings"
+    return f"{len(FIELDS)} tables, {len(FAULTS)} faults, {count} meanings"
 
 
 # The pair of the textbook (The 1090 Megahertz Riddle), as its formulas have it: for each frame its zones and point.
-PAIR_STEPS = [
-    ["parity", "even", "odd"], ["latitude code", "93000", "74158"], ["longitude code", "51372", "50194"],
-    ["latitude zone (j)", "8", "8"], ["latitude, exact", "428091/8192", "25261515/483328"],
-    ["latitude", "52.2572021", "52.2657802"], ["longitude zones (NL)", "36", "36"], ["longitude zone (m)", "0", "0"],
-    ["longitude, exact", "64215/16384", "225873/57344"], ["longitude", "3.9193726", "3.9389125"],
-]
+PAIR_STEPS = [["parity", "even", "odd"], ["latitude code", "93000", "74158"], ["longitude code", "51372", "50194"],
+              ["latitude zone (j)", "8", "8"], ["latitude, exact", "428091/8192", "25261515/483328"],
+              ["latitude", "52.2572021", "52.2657802"], ["longitude zones (NL)", "36", "36"],
+              ["longitude zone (m)", "0", "0"], ["longitude, exact", "64215/16384", "225873/57344"],
+              ["longitude", "3.9193726", "3.9389125"]]
 COSINE = math.cos(math.radians(25261515 / 483328))
-ODD_ZONE = [
-    ["latitude zones", "59"], ["latitude zone (j)", "8"], ["zone height", "6.1016949 degrees, 360/59"],
-    ["zone height, a step of 131072", f"0.000046552 degrees, about {360 / 59 / 131072 * 111195:.2f} m"],
-    ["longitude zones (NL) of the even format", "36"], ["longitude zones of this format", "35"],
-    ["longitude zone (m)", "0"], ["zone width", "10.2857143 degrees, 72/7"],
-    ["zone width, a step of 131072", f"0.000078473 degrees, about {72 / 7 / 131072 * 111195 * COSINE:.2f} m"],
-]
+ODD_ZONE = [["latitude zones", "59"], ["latitude zone (j)", "8"], ["zone height", "6.1016949 degrees, 360/59"],
+            ["zone height, a step of 131072", f"0.000046552 degrees, about {360 / 59 / STEPS * METRES:.2f} m"],
+            ["longitude zones (NL) of the even format", "36"], ["longitude zones of this format", "35"],
+            ["longitude zone (m)", "0"], ["zone width", "10.2857143 degrees, 72/7"],
+            ["zone width, a step of 131072", f"0.000078473 degrees, about {72 / 7 / STEPS * METRES * COSINE:.2f} m"]]
 EVEN_ZONE = [
     ["latitude zones", "60"], ["latitude zone (j)", "8"], ["zone height", "6.0000000 degrees, 6/1"],
-    ["zone height, a step of 131072", f"0.000045776 degrees, about {6 / 131072 * 111195:.2f} m"],
+    ["zone height, a step of 131072", f"0.000045776 degrees, about {6 / STEPS * METRES:.2f} m"],
     ["longitude zones (NL) of the even format", "36"], ["longitude zones of this format", "36"],
     ["longitude zone (m)", "0"], ["zone width", "10.0000000 degrees, 10/1"],
     ["zone width, a step of 131072",
-     f"0.000076293 degrees, about {10 / 131072 * 111195 * math.cos(math.radians(428091 / 8192)):.2f} m"],
+     f"0.000076293 degrees, about {10 / STEPS * METRES * math.cos(math.radians(428091 / 8192)):.2f} m"],
 ]
-OLDER_GROUND, NEWER_GROUND = "8C4841753AAB238733C8CD4020B1", "8C4841753A8A35323FAEBDAC702D"
 
 
 def place_tables(tries: Tries) -> str:
@@ -427,15 +407,13 @@ def place_tables(tries: Tries) -> str:
     point = [["latitude", "52.2572021", "428091/8192"], ["longitude", "3.9193726", "64215/16384"]]
     expect(got == [*point, *first], got)
     expect(shown(browser, "#place-hint") == "The reference must be within half a zone: 3 degrees of latitude in the "
-                                            "air,"
-           " 0.75 on the ground.", shown(browser, "#place-hint"))
+                                            "air, 0.75 on the ground.", shown(browser, "#place-hint"))
     expect(browser.evaluate("[...document.querySelectorAll('#place-older-field, #place-lat-label, #place-lon-label, "
                             "#place-newer-label')].map((one) => one.hidden || one.textContent)") ==
            [True, "Frame", "Latitude of the reference", "Longitude of the reference"], "the labels of one frame")
-    expect(browser.evaluate("document.getElementById('place-older').value") == AIR_ODD, "the older frame is kept")
+    expect(value_of(browser, "place-older") == AIR_ODD, "the older frame is kept")
     clicked(browser, "[data-place*='8D43029E']")
-    expect(browser.evaluate("['lat', 'lon'].map((name) => document.getElementById(`place-${name}`).value)") == ["", ""],
-           "an example without a receiver")
+    expect([value_of(browser, f"place-{name}") for name in ("lat", "lon")] == ["", ""], "an example without a receiver")
     expect(browser.evaluate("document.querySelector('[name=place-from]:checked').value") == "pair", "two frames")
     # 54.5 degrees are in zone 9 of the even frame and in zone 8 of the odd one, 43 degrees east in 4 and 3
     even, odd = browser.evaluate("[0, 1].map((odd) => squitterLog.library.frameText(squitterLog.library.encode("
@@ -445,7 +423,6 @@ def place_tables(tries: Tries) -> str:
     wanted = [[str(int(at // (360 / zones))) for zones in pair] for at, pair in ((54.5, (60, 59)), (43, (34, 33)))]
     expect([steps["latitude zone (j)"], steps["longitude zone (m)"]] == wanted, steps, wanted)
     count = ground_tables(browser) + refused_pairs(browser)
-    silent(browser)
     return f"3 tables, {count} more answers"
 
 
@@ -471,9 +448,9 @@ def refused_pairs(browser: Chromium) -> int:
     border = ("The latitude of the even frame has {} longitude zones, and that of the odd frame has {}. The aircraft "
               "crossed a zone border between them, so the pair has no longitude.")
     rows: List[Tuple[str, str, str, str, str, List[str]]] = [
-        (OLDER_GROUND, NEWER_GROUND, "", "", site, []),
-        (OLDER_GROUND, NEWER_GROUND, "1", "", "Refused: ", []),
-        (OLDER_GROUND, NEWER_GROUND, "", "1", "Refused: ", []),
+        (GROUND_EVEN, GROUND_ODD, "", "", site, []),
+        (GROUND_EVEN, GROUND_ODD, "1", "", "Refused: ", []),
+        (GROUND_EVEN, GROUND_ODD, "", "1", "Refused: ", []),
         (AIR_EVEN, AIR_EVEN, "", "", "No position: ", []),
     ]
     # NL is 59 up to 10.47047130 degrees, and 58 beyond.
@@ -499,7 +476,7 @@ SENT: Rows = (
     *((f"aboutMetres({{ num: {num}n, den: {den}n }}, {factor})", f"about {wanted} m")
       for num, den, factor, wanted in (
           (1, 1, 1, "111195"), (-2, 1, 1, "222390"), (1, 1, 0.25, "27799"), (1, 10**6, 1, "0.11"),
-          (10, 111195, 1, "10"), (899, 10**7, 1, "10.00"), (8992, 10**8, 1, "10.00"), (9, 10**5, 1, "10"),
+          (10, METRES, 1, "10"), (899, 10**7, 1, "10.00"), (8992, 10**8, 1, "10.00"), (9, 10**5, 1, "10"),
           (1, 10_000, 1, "11"))),
     *((f"text(aroundTheCircle({{ num: {num}n, den: {den}n }}))", wanted) for num, den, wanted in (
         (180, 1, "180/1"), (181, 1, "-179/1"), (-180, 1, "-180/1"), (-181, 1, "179/1"), (361, 2, "-359/2"),
@@ -543,13 +520,22 @@ def sent_tables(tries: Tries) -> str:
                 error, metres = (float(rows[at][column].split(" ")[part]) for part in (0, 3))
                 turned = (point - given + 540) % 360 - 180
                 expect(abs(turned - error) < 1e-7, rows[at], point, given)
-                expect(abs(abs(error) * 111195 * factor - metres) < 0.0051, rows[at][column], factor)
+                expect(abs(abs(error) * METRES * factor - metres) < 0.0051, rows[at][column], factor)
         expect([row[1:] for row in rows] != [row[:0:-1] for row in rows], "both frames have the same steps")
         count += 4
+    count += sent_heads(browser)
+    typed(browser, send_feet="25")
+    heads = texts_of(browser, "#send-answer h3")
+    expect(heads == ["Even frame", "Odd frame"], heads)
+    return f"{count} values"
+
+
+def sent_heads(browser: Chromium) -> int:
+    """The frames of heads, or why there are none. Returns how many heads there are."""
     for kind, address, feet, said in HEADS:
         clicked(browser, f"[name=send-kind][value={kind}]")
         typed(browser, send_lat="1", send_lon="2", send_address=address, send_feet=feet)
-        frames = browser.evaluate("[...document.querySelectorAll('#send-answer code')].map((one) => one.textContent)")
+        frames = texts_of(browser, "#send-answer code")
         expect(browser.evaluate("document.getElementById('send-feet-field').hidden") == (kind == "ground"), kind)
         if said is None or "feet" in said or "no " in said:
             read = browser.evaluate(f"{json.dumps(frames)}.map((frame) => [squitterLog.library.read(frame), "
@@ -561,10 +547,4 @@ def sent_tables(tries: Tries) -> str:
         else:
             parts = browser.evaluate("['send-near', 'send-steps'].map((id) => byId(id).children.length)")
             expect(frames == [] and said in shown(browser, "#send-answer") and parts == [0, 0], feet, frames, parts)
-        count += 1
-    heads = browser.evaluate("[...document.querySelectorAll('#send-answer h3')].map((one) => one.textContent)")
-    typed(browser, send_feet="25")
-    heads = browser.evaluate("[...document.querySelectorAll('#send-answer h3')].map((one) => one.textContent)")
-    expect(heads == ["Even frame", "Odd frame"], heads)
-    silent(browser)
-    return f"{count} values"
+    return len(HEADS)

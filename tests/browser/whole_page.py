@@ -1,5 +1,4 @@
 """Parts of tests/page about all of it: its files, colours, keys, widths and policy, by a web server and in Firefox."""
-import functools
 import http.server
 import os
 import re
@@ -10,9 +9,9 @@ from typing import List, Tuple
 
 import firefox
 from chromium import Chromium
-from logs import flights, tracked
-from trying import INDEX, SITE, TOP, Missing, Tries, bytes_of, expect, first_difference, read_text
-from using import ALT, CONTROL, META, clicked, heard, pressed, shown, silent, typed
+from logs import NEAR, flights, tracked
+from trying import INDEX, TOP, Missing, Tries, bytes_of, expect, first_difference, read_text
+from using import ALT, CONTROL, META, clicked, example_page, heard, heard_right, pressed, shown, typed
 
 
 # Fails unless library.js and squitter.js have the same names, and the same code once comments and space are left out.
@@ -100,14 +99,8 @@ def contrast(tries: Tries) -> str:
     expect(len(themes) == 2, "there are", len(themes), "themes")
     for theme in themes:
         pairs = [
-            ("ink", "ground", 4.5),
-            ("ink", "field", 4.5),
-            ("dim", "ground", 4.5),
-            ("dim", "field", 4.5),
-            ("wrong", "field", 4.5),
-            ("wrong", "ground", 4.5),
-            ("accent", "ground", 4.5),
-            *(("ink", f"tint{n}", 4.5) for n in range(8)),
+            *((name, below, 4.5) for name in ("ink", "dim", "wrong") for below in ("ground", "field")),
+            ("accent", "ground", 4.5), *(("ink", f"tint{n}", 4.5) for n in range(8)),
             *((name, below, 4.5) for name in ("ink", "dim") for below in ("sea", "land")),
             *((f"track{n}", below, 3) for n in range(6) for below in ("ground", "sea", "land")),
             *((name, below, 3) for name in ("accent", "wrong") for below in ("sea", "land")),
@@ -120,32 +113,15 @@ def contrast(tries: Tries) -> str:
 
 
 def keyboard(tries: Tries) -> str:
-    """Tabs and the map go by keys, and every field has a label."""
+    """The map goes by keys, and every field has a label. (controls.tabs has the keys of the tabs.)"""
     browser = tries.page()
-    count = 0
-    press = functools.partial(pressed, browser)
-
-    browser.evaluate("document.getElementById('tab-frame').focus()")
-    for key, panel in (
-        ("ArrowRight", "place"),
-        ("ArrowRight", "send"),
-        ("End", "log"),
-        ("ArrowRight", "frame"),
-        ("ArrowLeft", "log"),
-    ):
-        press(key)
-        open_panels = browser.evaluate(
-            "[...document.querySelectorAll('[role=tabpanel]')].filter((one) => !one.hidden).map((one) => one.id)"
-        )
-        expect(open_panels == [f"panel-{panel}"], key, open_panels)
-        count += 1
-    count += keys_of_the_browser(browser)
+    count = keys_of_the_browser(browser)
     clicked(browser, "#log-example")
     heard(browser)
     browser.evaluate("document.getElementById('map').focus()")
     for key, value in (("+", "scale"), ("-", "scale"), ("ArrowLeft", "center.x"), ("ArrowUp", "center.y")):
         before = browser.evaluate(f"squitterLog.map.{value}")
-        press(key)
+        pressed(browser, key)
         expect(browser.evaluate(f"squitterLog.map.{value}") != before, key, "changes nothing")
         count += 1
     bare = browser.evaluate(
@@ -154,7 +130,6 @@ def keyboard(tries: Tries) -> str:
         "!one.textContent.trim()).map((one) => one.outerHTML)"
     )
     expect(bare == [], "without a label:", bare)
-    silent(browser)
     return f"{count} keys"
 
 
@@ -192,9 +167,7 @@ def forced_colours(tries: Tries) -> str:
 
 def printed(tries: Tries) -> str:
     """On paper, tables are whole: no row or column is behind a scroll bar."""
-    browser = tries.page("log")
-    clicked(browser, "#log-example")
-    heard(browser)
+    browser = example_page(tries)
     browser.look(718, 1000, False)  # the width of A4 without its margins, in CSS pixels
     browser.call("Emulation.setEmulatedMedia", media="print")
     count = 0
@@ -220,9 +193,7 @@ PANELS = ("frame", "place", "send", "log")
 
 def widths(tries: Tries) -> str:
     """Nothing is wider than a phone, in light and dark; pictures are left where SHOTS names a folder."""
-    browser, folder, count = tries.page("log"), os.environ.get("SHOTS"), 0
-    clicked(browser, "#log-example")
-    heard(browser)
+    browser, folder, count = example_page(tries), os.environ.get("SHOTS"), 0
     for width in (1100, 390, 320, 280):
         for dark in (False, True):
             browser.look(width, 900, dark)
@@ -237,7 +208,6 @@ def widths(tries: Tries) -> str:
         rows = browser.evaluate("(({ scrollWidth, clientWidth }) => [scrollWidth, clientWidth])(byId('log-rows-box'))")
         expect(rows[0] == rows[1], "the results are", rows[0], "wide in a box of", rows[1], "on", width)
     count += narrow_examples(browser)
-    silent(browser)
     return f"{count} views"
 
 
@@ -286,9 +256,7 @@ def served(tries: Tries) -> str:
     try:
         browser = tries.page("log", f"http://127.0.0.1:{server.server_port}/")
         clicked(browser, "#log-example")
-        got, wanted = heard(browser), tracked(tries.program, flights(), (10_000, 1000, SITE))
-        expect(got == wanted, first_difference(got, wanted))
-        silent(browser)
+        heard_right(tries, flights(), NEAR)
     finally:
         server.shutdown()
     there = {f"/{name}" for name in os.listdir(f"{TOP}/web")} | {"/"}
@@ -312,7 +280,8 @@ def policy(tries: Tries) -> str:
         told = browser.call("Runtime.evaluate", expression=tried, allowUnsafeEvalBlockedByCSP=False)
         expect(told["result"].get("value") in ("TypeError", "EvalError"), what, "is let through:", told)
     asked = browser.evaluate("fetch('http://127.0.0.1:9/').then(() => 'done', (error) => error.name)")
-    expect(asked == "TypeError" and any("Content Security Policy" in one for one in browser.problems), browser.problems)
+    problems, browser.problems = browser.problems, []
+    expect(asked == "TypeError" and any("Content Security Policy" in one for one in problems), problems)
     text = read_text("web/index.html")
     inline = re.findall(r"<script>|<style|\son\w+=|\sstyle=|javascript:", text)
     expect(not inline and "unsafe-inline" not in text and "'unsafe-eval'" not in text, inline)
@@ -329,7 +298,6 @@ def without_simd(tries: Tries) -> str:
         said = shown(browser, "#notice")
         hidden = browser.evaluate("document.querySelector('main').hidden && document.getElementById('tabs').hidden")
         expect("SIMD" in said and "invalid value type" in said and hidden, said, hidden)
-        silent(browser)
     finally:
         browser.call("Page.removeScriptToEvaluateOnNewDocument", identifier=added)
     return "a sentence"
@@ -347,7 +315,7 @@ def in_firefox(tries: Tries) -> str:
         browser.open(f"{INDEX}#log")
         browser.evaluate("document.getElementById('log-example').click()")
         browser.wait("document.getElementById('log-state').textContent.includes('decoded. ')")
-        got, wanted = browser.evaluate(TEXT).encode(), tracked(tries.program, flights(), (10_000, 1000, SITE))
+        got, wanted = browser.evaluate(TEXT).encode(), tracked(tries.program, flights(), NEAR)
         expect(got == wanted, first_difference(got, wanted))
         frame = browser.evaluate("document.getElementById('frame-answer').textContent")
         expect("38000 feet" in frame and "40621D" in frame, frame)

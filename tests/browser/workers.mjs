@@ -1,11 +1,11 @@
 /* workers.mjs: web/squitter.js in several worker threads of Node at once. Each loads the module and decodes the same
  * log with trackers. All have the results of one thread. Prints how many results they compared. */
-import { readFileSync } from "node:fs";
 import { Worker, isMainThread, parentPort, workerData } from "node:worker_threads";
 import { load, Fault, Log, Tracker } from "../../web/squitter.js";
+import { FLIGHTS, MODULE } from "./checks.mjs";
 
 const WORKERS = 4, SITE = { lat: "52.31", lon: "4.76" };
-const FLIGHTS = readFileSync(new URL("../../examples/flights.log", import.meta.url), "ascii");
+const LOG = FLIGHTS.toString("ascii");
 
 /** Returns the result of a call as text, also that of a fault. */
 function textOf(call) {
@@ -22,12 +22,12 @@ async function decoded(source) {
   const library = await load(source), results = [];
   for (const site of [SITE, null, SITE, null]) {
     const tracker = new Tracker(library, { site }), log = new Log(library, { site });
-    for (const line of FLIGHTS.trimEnd().split("\n")) {
+    for (const line of LOG.trimEnd().split("\n")) {
       const [moment, frame] = line.split(" ");
       results.push(textOf(() => tracker.hear(BigInt(moment), frame)));
     }
     const { last, entries } = tracker.save();
-    results.push(`${last} ${Buffer.from(entries).toString("hex")}`, log.takeText(FLIGHTS), log.finishText());
+    results.push(`${last} ${Buffer.from(entries).toString("hex")}`, log.takeText(LOG), log.finishText());
   }
   return results;
 }
@@ -42,9 +42,8 @@ function inWorkers(source) {
 }
 
 if (isMainThread) {
-  const bytes = readFileSync(new URL("../../dist/squitter.wasm", import.meta.url));
-  const alone = await decoded(bytes), compiled = await WebAssembly.compile(bytes);
-  for (const [name, source] of [["bytes", bytes], ["a compiled module", compiled]]) {
+  const alone = await decoded(MODULE), compiled = await WebAssembly.compile(MODULE);
+  for (const [name, source] of [["bytes", MODULE], ["a compiled module", compiled]]) {
     // The main thread decodes meanwhile.
     const started = inWorkers(source), all = [await decoded(source), ...await started];
     for (const results of all) {
