@@ -1,6 +1,6 @@
 /* feed: tests a source in pieces with outputs of any size, the end of a source, and blocks that are too small. The
- * squitters must not depend on the sizes, and a fault must change nothing. What is read of which bytes, and when, is
- * tested by the feeds of vectors/. */
+ * squitters must not depend on the sizes, and a fault must change nothing. The feeds of vectors/ test how bytes are
+ * read, and which timestamps frames get. */
 #include "squitter.h"
 #include <stdbool.h>
 #include <stdio.h>

@@ -249,7 +249,7 @@ def chosen_again(browser: Chromium, path: str) -> None:
     browser.call("Page.setInterceptFileChooserDialog", enabled=False)
 
 
-# What is changed, and the settings after it.
+# Fields with their new values, and the settings after the change.
 CHANGES: Tuple[Tuple[Dict[str, str], Settings], ...] = (
     ({"log_window": "400"}, (400, 1000, SITE)), ({"log_limit": "2"}, (400, 2, SITE)),
     ({"log_limit": "1000", "log_window": "10000"}, NEAR), ({"log_lat": "-33.9"}, (10_000, 1000, ("-33.9", SITE[1]))),

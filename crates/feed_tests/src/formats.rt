@@ -234,7 +234,7 @@ fn tables_that_are_not_read_are_told(rt: HostRuntime) {
         )
     );
     assert!(rt; holds(b"1.5,8D4840D6202CC371C32CE0576098\n", "", 16, 1));
-    // None of these.
+    // Tables without any of these signs.
     assert!(rt; holds(b"time,lat\nicao24,lat\n1.5;2040\n", "", 10, 1));
     // The first one decides, and none outweighs a row that is read.
     assert!(rt; holds(b"rawmsg\n1.5;rawmsg\n{}\n", "", 13, 1));

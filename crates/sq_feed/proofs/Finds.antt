@@ -91,7 +91,7 @@ text_more old mid byte messages more same is few =
     (shown_by (beast_of mid) (lines_after old.text byte) more)))
     (lt-leb 2 (beast_of mid []) (subst (λ n. n < 2) is few))
 
--- what is shown at the limit, by the sign of the line that has begun
+-- the sign at the limit, by the sign of the unfinished line
 last_shown : (old new : Finds) (byte : ℕ) (last : Sign) (is_framed : Bool) (stranger : Stranger)
     → ((more : List ℕ) → shown_after old (byte ∷ more)
     ≡ first_shown last (if is_framed then Shows Avr else Other stranger))

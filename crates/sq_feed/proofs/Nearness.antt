@@ -70,7 +70,7 @@ rows_go (one ∷ more) d arrival t =
     goes_more (record { moment = told_as t moment; frame = one.frame } ∷ []) (timed_all d arrival next more) t.late
     t.latest next (gone_all d arrival next more) (gone t moment arrival one.frame) (rows_go more d arrival next)
 
--- a frame with a clock, whose time is believed or not
+-- a frame with a clock, if its time is believed or not
 clock_goes : (b : Bool) (told : List Timed) (d : Dates) (t : Timing) (shown arrival : ℕ)
     → Goes t.late t.latest (timed_all d arrival (if b then clocked t shown arrival else t) told)
     (gone_all d arrival (if b then clocked t shown arrival else t) told)

@@ -197,7 +197,7 @@ module _ (before : List ℕ) (is_framed : Bool) where
       (shown_by (λ q. Turns before (line ++ byte ∷ q)) (lines_after (Text before line is_framed stranger) byte) more))
       ≡ Shows format
 
-  -- what a source shows whose unfinished line shows its format at this byte, or before it by a marked frame
+  -- A source shows a format if its unfinished line shows it at this byte, or before it by a marked frame.
   shown_at : (line front more : List ℕ) (byte : ℕ) (stranger : Option Stranger) (format : Format)
       → length before + length line + length front < 16384 → Plain before → Plain (line ++ front) → byte ≢ escape
       → AllByRecursion (λ b. b ≢ 10) front

@@ -152,8 +152,8 @@ joined t d a one = if follows t d a one.moment then Two a one else Torn a one
 abbrev pub goes_on_from : Timing → Dates → (a b : Timed) → ℕ → Bool
 goes_on_from t d a b moment = is_beside t d a moment || follows t d a moment && not (follows t d b moment)
 
--- A third frame that does not confirm two: it takes the place of the second if it goes on from the first, otherwise
--- that of the first.
+-- A third frame that does not confirm two takes the place of the second if it goes on from the first. Otherwise it
+-- takes the place of the first.
 abbrev pub replaced : Timing → Dates → (a b one : Timed) → Judged
 replaced t d a b one =
     if goes_on_from t d a b one.moment then waits d (Two a one) (b ∷ []) else waits d (joined t d b one) (a ∷ [])

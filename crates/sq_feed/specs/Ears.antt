@@ -271,8 +271,8 @@ StaysNearAtEnd = (ear : Hears) → AreNear ear.times.late ear.times.latest (told
     × ((ear_ended ear).times.late ≡ ear.times.late)
     × ((ear_ended ear).times.latest ≡ latest_told ear.times.latest (told_ended ear))
 
--- Each item is counted once, and each frame with a timestamp is counted as written, up to 2^64 - 1 items. A frame
--- that waits is counted when it is decided.
+-- Each item is counted once, and each frame with a timestamp is counted as written, up to 2^64 - 1 items. A
+-- waiting frame is counted once its time is believed or set aside.
 abbrev pub CountsEach : Type 0
 CountsEach = (arrival : ℕ) (ear : Hears) (items : List Found)
     → ear.counts.found + length (waiting ear.dates) + length items ≤ 2 ^ 64 - 1

@@ -107,7 +107,7 @@ impl Ear {
     }
 
     /// Hears an item that arrived at `arrival` (ms). Returns the timestamp of its frame, if it has one at once. Appends
-    /// the squitters whose times it confirms to those that are ready, itself the last.
+    /// the squitters that it confirms to those that are ready, itself the last.
     #[inline(never)]
     pub fn hear(&mut self, found: &Found, arrival: u64, ready: &mut Ready) -> Option<u64>
         requires { length ready.old.items + length (waiting self.old.dates) ≤ 3 }
