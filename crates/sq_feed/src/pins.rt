@@ -219,6 +219,8 @@ pub fn formats_in_letters()
         ≡ Found.Damage ∷ Found.Damage ∷ avr_found (codes "*02E197B00179C3;") }
     ensures cut { any_found (codes "02E197B00179C3;*02E197B00179C3;")
         ≡ Found.Damage ∷ avr_found (codes "*02E197B00179C3;") }
+    ensures at_once { any_found (codes "02E197B00179C3" ++ 10 ∷ codes "7 *2040;")
+        ≡ avr_found (codes "*02E197B00179C3;") ++ Found.Damage ∷ bare_item 64 ∷ [] }
     ensures by_itself { any_found (codes "02E197B00179C3") ≡ avr_found (codes "*02E197B00179C3;") }
     ensures in_json { any_found (codes "{}*02E197B00179C3;" ++ 10 ∷ codes "{}*02E197B00179C3;")
         ≡ Found.Damage ∷ avr_found (codes "*02E197B00179C3;")
