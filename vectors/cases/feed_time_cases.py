@@ -226,6 +226,21 @@ def add_clock_turns(cases: Cases) -> None:
     back = TURN - 500 * RATE  # half a second before the clock turns
     cases.add("turn", "ClockTurn", clocked(E, 0x0000000000FF) + clocked(O, back), ["0 E", "0 O"],
               note="a clock before 0 is at 0, and late")
+    start = 500 * RATE
+    for back, lines in ((1001 * RATE - 1, ["500 E", "500 O"]), (1001 * RATE, ["500 E"]), (half, ["500 E"])):
+        cases.add("turn", "ClockTurn", clocked(E, start) + clocked(O, (start - back) % TURN), lines,
+                  {} if len(lines) == 2 else {"aside": 1}, note="a clock before 0 is late by at most a second")
+    for back in (1001 * RATE, half):
+        cases.add("turn", "ClockTurn", clocked(E, start) + clocked(O, (start - back) % TURN) + clocks(600, 700),
+                  ["500 E", *times([600, 700])], {"aside": 1}, note="a wild value moves no later time")
+    for late, back in ((5000, 5001 * RATE - 1), (5000, 5001 * RATE)):
+        fits = back < 5001 * RATE
+        cases.add("turn", "ClockTurn", clocked(E, start) + clocked(O, (start - back) % TURN),
+                  ["500 E", "0 O"] if fits else ["500 E"], {} if fits else {"aside": 1}, late=late)
+    cases.add("turn", "ClockTurn", clocked(E, start) + b"".join(clocked(O, (TURN - 9000 * RATE) + n * RATE)
+                                                                  for n in (0, 1, 2)) + clocked(E, TURN - 8000 * RATE),
+              ["500 E", "600501 O", "600501 O", "600501 O", "601499 E"], {"breaks": 1},
+              note="three values before 0 start the clock anew")
 
 
 def add_live_clocks(cases: Cases) -> None:

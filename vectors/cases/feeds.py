@@ -354,6 +354,12 @@ class Times:
         ahead = (ticks - last) % TURN
         return min(count + ahead, MOST) if ahead < TURN // 2 else max(count + ahead - TURN, 0)
 
+    def _is_beyond_zero(self, ticks: int) -> bool:
+        """A clock's value counts back beyond 0, by more than times may be late."""
+        last, count = self.clock or (ticks, 0)
+        back = TURN - (ticks - last) % TURN
+        return count < back <= TURN // 2 and back // RATE > max(self.late, TOLERANCE)
+
     def _is_near(self, base: int, moment: int) -> bool:
         return base <= moment + max(self.late, TOLERANCE) and moment <= base + self.leap
 
@@ -379,7 +385,7 @@ class Times:
         if not self.is_begun:
             self.is_begun, self.first = True, [one]
             return iter(())
-        if self._fits(one, arrival):
+        if self._fits(one, arrival) and not (clock and self._is_beyond_zero(clock[0])):
             self.aside += len(self.run)
             self.run, self.clock = [], clock or self.clock
             return self._believed([one], arrival)

@@ -209,11 +209,6 @@ pub item_whole : (mark : Mark) (digits : List ℕ) (is_bad : Bool) (size : Size)
 item_whole mark digits is_bad size good hex e =
     sym (item_good mark digits is_bad good hex ∙ ap (λ s. whole_or_damage mark s digits) e)
 
-pub item_none : (mark : Mark) (digits : List ℕ) (is_bad : Bool) → is_bad ≡ false → AreHex digits
-    → size_of mark (length digits) ≡ None → Damage ≡ item_of mark (word_of digits is_bad)
-item_none mark digits is_bad good hex e =
-    sym (item_good mark digits is_bad good hex ∙ ap (λ s. whole_or_damage mark s digits) e)
-
 pub item_bad : (mark : Mark) (digits : List ℕ) (is_bad : Bool) → is_bad ≡ true
     → Damage ≡ item_of mark (word_of digits is_bad)
 item_bad mark digits is_bad bad =
@@ -223,10 +218,6 @@ item_bad mark digits is_bad bad =
 pub bare_some : (word : List ℕ) → 0 < length word → item_of Plain word ∷ [] ≡ bare word
 bare_some [] some = absurd (omega (arith, some))
 bare_some (b ∷ word) some = refl
-
-pub stray_some : (word : List ℕ) → 0 < length word → Damage ∷ [] ≡ stray_word word
-stray_some [] some = absurd (omega (arith, some))
-stray_some (b ∷ word) some = refl
 
 -- ---- frames that are written
 
@@ -361,16 +352,6 @@ pub are_hex_each : (word : List ℕ) → are_hex word ≡ true → AreHex word
 are_hex_each [] all = tt
 are_hex_each (d ∷ word) all =
     let parts = and_parts (is_hex d) (are_hex word) all in (parts.0, are_hex_each word parts.1)
-
--- a word of more than 42 bytes is not a frame
-pub no_frame_long : (word : List ℕ) → 42 < length word → None ≡ frame_of_word word
-no_frame_long word long =
-    ap (λ s. framed s word) (sym (no_size (are_hex word) (size_of Plain (length word)) (too_many Plain
-    (length word) long)))
-
-pub no_frame_byte : (word : List ℕ) → are_hex word ≡ false → None ≡ frame_of_word word
-no_frame_byte word none =
-    ap (λ s. framed s word) (sym (ap (λ (t : Bool). if t then size_of Plain (length word) else None) none))
 
 pub frame_sized : (word : List ℕ) (size : Option Size) → are_hex word ≡ true → size_of Plain (length word) ≡ size
     → framed size word ≡ frame_of_word word

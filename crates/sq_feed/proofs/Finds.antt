@@ -140,18 +140,6 @@ signs_shown old mid new byte messages sign limit_is result same is few beast cou
 
 -- ---- a loop over bytes
 
-pub shown_nothing : (finds : Finds) → HasShown Unclear finds [] finds
-shown_nothing finds = λ more. refl
-
-pub shown_on : (old mid new : Finds) (a b : List ℕ) (sign : Sign) → HasShown Unclear old a mid → HasShown sign mid b new
-    → HasShown sign old (a ++ b) new
-shown_on old mid new a b Unclear first second = λ more.
-    ap (shown_after old) (append_assoc a b more) ∙ first (b ++ more) ∙ second more
-shown_on old mid new a b (Shows format) first second = λ more.
-    ap (shown_after old) (append_assoc a b more) ∙ first (b ++ more) ∙ second more
-shown_on old mid new a b (Other stranger) first second = λ more.
-    ap (shown_after old) (append_assoc a b more) ∙ first (b ++ more) ∙ second more
-
 -- ---- the line so far
 
 pub front_all : (xs : List ℕ) (x : ℕ) → take (length (xs ++ x ∷ []) - 1) (xs ++ x ∷ []) ≡ xs

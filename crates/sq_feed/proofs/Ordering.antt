@@ -89,16 +89,6 @@ back_here moment at held any some within less =
     (ap (place_of moment) (take_more held k any (omega (arith, some, within)))
     ∙ place_here moment (take k held) (get_or held k any) less ∙ long)
 
-pub place_within : (moment : ℕ) (held : List Timed) → place_of moment held ≤ length held
-place_within moment [] = omega arith
-place_within moment (x ∷ xs) = by (nat_lt moment x.moment) (eqb (place_of moment xs) 0) (place_within moment xs)
-  where
-    by : (b c : Bool) → place_of moment xs ≤ length xs
-        → (if c then (if b then 0 else 1) else place_of moment xs + 1) ≤ length (x ∷ xs)
-    by true true rest = omega arith
-    by false true rest = omega arith
-    by b false rest = omega (arith, rest)
-
 place_behind : (moment : ℕ) (xs ys : List Timed) → AllUntil moment xs
     → place_of moment (xs ++ ys) ≡ length xs + place_of moment ys
 place_behind moment [] ys until = omega arith
@@ -138,9 +128,6 @@ drop_insert first at xs one fits =
 
 pub held_so : (one : Timed) (s : Sorting) → is_late one s ≡ false → with_one one s ≡ holding_one one s
 held_so one s is = ap (λ b. if b then without_one s else holding_one one s) is
-
-pub late_so : (one : Timed) (s : Sorting) → is_late one s ≡ true → with_one one s ≡ without_one s
-late_so one s is = ap (λ b. if b then without_one s else holding_one one s) is
 
 -- an index in the list of an order, and after it the index for a squitter
 pub put_view : (one : Timed) (old : Sorting) (latest first at : ℕ) (line after : List Timed)
@@ -453,10 +440,6 @@ sorts_the_whole before (one ∷ more) (sorts, others) =
     )
 
 -- ---- sorted squitters
-
-rise_lower : (low moment : ℕ) (xs : List Timed) → low ≤ moment → RiseFrom moment xs → RiseFrom low xs
-rise_lower low moment [] fits rise = tt
-rise_lower low moment (x ∷ xs) fits rise = (omega (arith, fits, rise.0), rise.1)
 
 place_after : (low moment : ℕ) (xs : List Timed) → RiseFrom low xs → 0 < place_of moment xs → low ≤ moment
 place_after low moment [] rise some = absurd (omega (arith, some))

@@ -93,19 +93,6 @@ row_ends old new row found is items layout none short rest =
     ∙ ap (λ l. found ++ rows_from new.layout (l ++ []) rest) (sym none)
     ∙ ap (λ (t : Bool). found ++ rows_from new.layout (line_of new.held t) rest) (sym short)
 
--- a line that is too long is damage
-pub long_is : (begun : BegunRow) → IsHeld begun → begun.is_long ≡ true
-    → One Damage ≡ row_read begun.layout (line_of begun.held begun.is_long)
-long_is begun held is =
-    sym (ap (λ (t : Bool). row_read begun.layout (line_of begun.held t)) is
-    ∙ long_row begun.layout (begun.held ++ 0 ∷ []) (omega (arith, held is, length-append begun.held (0 ∷ []))))
-
-pub short_is : (begun : BegunRow) → begun.is_long ≡ false
-    → row_read begun.layout begun.held ≡ row_read begun.layout (line_of begun.held begun.is_long)
-short_is begun is =
-    ap (row_read begun.layout) (sym (append-nil begun.held))
-    ∙ ap (λ (t : Bool). row_read begun.layout (line_of begun.held t)) (sym is)
-
 -- ---- a line
 
 line_goes : (line front more : List ℕ) (layout : Layout) → AllByRecursion (λ byte. byte ≢ 10) line

@@ -384,14 +384,6 @@ each_unlike : (digits : List ℕ) (other : ℕ) → AreHex digits → is_hex oth
 each_unlike [] other hex none = tt
 each_unlike (d ∷ digits) other (is, hex) none = (hex_unlike d other is none, each_unlike digits other hex none)
 
--- a byte that does not occur in a text
-occurs_not : (text before back : List ℕ) (byte : ℕ) → AllByRecursion (λ b. b ≢ byte) text
-    → text ≢ before ++ byte ∷ back
-occurs_not [] [] back byte all = λ e. absurd (cc e)
-occurs_not [] (b ∷ before) back byte all = λ e. absurd (cc e)
-occurs_not (x ∷ text) [] back byte (is, all) = λ e. is (ap (λ l. slice_index l 0) e)
-occurs_not (x ∷ text) (b ∷ before) back byte (is, all) = λ e. occurs_not text before back byte all (ap (drop 1) e)
-
 few_digits : (mark : Mark) (size : Size) → 2 * (lead mark + frame_len size) ≤ 42
 few_digits PlainMark TwoBytes = omega arith
 few_digits PlainMark SevenBytes = omega arith

@@ -173,11 +173,6 @@ over_on reads bytes is more =
 
 -- ---- the end of a source
 
--- an ended source with work left is ending
-pub still_ending : (reads : Reads) → HasEnded reads → 0 < calls_left reads → IsEnding reads.stage
-still_ending reads (inl ending) some = ending
-still_ending reads (inr (anew, none)) some = absurd (omega (arith, none, some))
-
 -- A step without a byte leaves an ended source at its end: its reader goes on, or a squitter is ready.
 pub ended_step : (old new : Feeding) → HasEnded old.reader → 0 < steps_left old
     → (IsEnding old.reader.stage → HasEnded new.reader) → (0 < length old.ready → new.reader ≡ old.reader)

@@ -25,10 +25,10 @@ use Rattle.sq_feed.specs.Dates.{follows, goes_on_from, is_ahead, is_beside, is_f
 use Rattle.sq_feed.specs.Dates.{run_waiting, shifted, started, timed_all, waiting, waits}
 use Rattle.sq_feed.specs.Clock.{turn}
 use Rattle.sq_feed.specs.Ears.{CountsAtEnd, CountsEach, Hears, clock_judged, clock_one, ear_after, ear_arrived, ear_at}
-use Rattle.sq_feed.specs.Ears.{ear_by, ear_clocked, ear_judged, fate_of, format_of, is_multilaterated, row_judged}
+use Rattle.sq_feed.specs.Ears.{ear_by, ear_clocked, ear_judged, fate_of, format_of, is_multilaterated, judged_with, row_judged}
 use Rattle.sq_feed.specs.Ears.{told_arrived, told_at, told_by, told_clocked, told_judged, told_of, told_of_all, whole_of}
 use Rattle.sq_feed.specs.Ears.{with_clock, with_row}
-use Rattle.sq_feed.specs.Times.{Timing, gone_on, is_clockless}
+use Rattle.sq_feed.specs.Times.{Timing, gone_on, is_beyond_zero, is_clockless}
 
 -- ---- rows
 
@@ -108,11 +108,22 @@ judged_balances t d arrival one =
     let is = first_balances d.first t d arrival one refl in
     omega (arith, is, length-append (first_waiting d.first) (run_waiting d.run))
 
--- a frame with a clock, whether it starts the clock or not
-pub clock_balances : (b : Bool) (t : Timing) (d : Dates) (arrival : ℕ) (one : Timed)
-    → Balances (if b then started d one else judged t d arrival one) (length (waiting d) + 1)
-clock_balances true t d arrival one = omega arith
-clock_balances false t d arrival one = judged_balances t d arrival one
+-- a frame that jumps, whatever its time
+jump_balances : (t : Timing) (d : Dates) (arrival : ℕ) (one : Timed)
+    → Balances (longer_run d.run t d arrival one) (length (waiting d) + 1)
+jump_balances t d arrival one =
+    let is = run_balances d.run t d arrival one in
+    omega (arith, is, length-append (first_waiting d.first) (run_waiting d.run))
+
+-- a frame with a clock
+pub clock_balances : (t : Timing) (shown : ℕ) (d : Dates) (arrival : ℕ) (one : Timed)
+    → Balances (judged_with t shown d arrival one) (length (waiting d) + 1)
+clock_balances t shown d arrival one =
+    if_balances (not t.clock.is_heard) (started d one)
+    (if is_beyond_zero t shown then longer_run d.run t d arrival one else judged t d arrival one)
+    (length (waiting d) + 1) (omega arith)
+    (if_balances (is_beyond_zero t shown) (longer_run d.run t d arrival one) (judged t d arrival one)
+    (length (waiting d) + 1) (jump_balances t d arrival one) (judged_balances t d arrival one))
 
 none_waits : (b : Bool) (x y : Judged) → waiting x.after ≡ [] → waiting y.after ≡ []
     → waiting (if b then x else y).after ≡ []
@@ -256,7 +267,7 @@ ticks_counts true shown arrival ear frame few = arrived_counts arrival ear frame
 ticks_counts false shown arrival ear frame few =
     let judged = clock_judged ear shown arrival frame in
     judged_counts arrival ear (with_clock ear shown arrival judged) judged refl
-    (clock_balances (not ear.times.clock.is_heard) ear.times ear.dates arrival (clock_one ear shown arrival frame)) few
+    (clock_balances ear.times shown ear.dates arrival (clock_one ear shown arrival frame)) few
 
 -- a frame whose time decides
 time_counts : (time : Time) (arrival : ℕ) (ear : Hears) (frame : List ℕ)

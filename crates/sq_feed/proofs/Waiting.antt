@@ -48,27 +48,6 @@ room_after judged d t arrival after next told old new balance after-is told-is s
     ap (λ (a : Dates). length (waiting a)) (same ∙ after-is) in
     (omega (arith, long, left, ap length told-is, balance, room), waiting_few next)
 
-pub end_room : (t : Timing) (d : Dates) (arrival : ℕ)
-    → length (timed_all (ended t d).after arrival t (ended t d).told) ≤ length (waiting d)
-end_room t d arrival =
-    let (balance, none) = ended_balances d.first t d refl in
-    let told = timed_length (ended t d).told (ended t d).after arrival t in
-    omega (arith, balance, told)
-
-pub none_left : (t : Timing) (d : Dates) → waiting (ended t d).after ≡ []
-none_left t d = let (balance, none) = ended_balances d.first t d refl in none
-
--- A step without anything ready goes on if its reader does.
-pub steps_go : (old new : Feeding) (bytes taken : ℕ) → old.ready ≡ [] → length new.ready ≤ 3
-    → ((0 < bytes) ⊎ (0 < calls_left old.reader)
-    → calls_left new.reader < calls_left old.reader + calls_for taken)
-    → (0 < bytes) ⊎ (0 < steps_left old) → steps_left new < steps_left old + steps_for taken
-steps_go old new bytes taken none few fewer (inl some) =
-    let less = fewer (inl some) in omega (arith, less, few)
-steps_go old new bytes taken none few fewer (inr some) =
-    let nothing : length old.ready ≡ 0 = ap length none in
-    let less = fewer (inr (omega (arith, some, nothing))) in omega (arith, less, few)
-
 no_length : {X : Type 0} (l : List X) → length l ≡ 0 → l ≡ []
 no_length [] none = refl
 no_length (x ∷ xs) none = absurd (omega (arith, none))

@@ -40,6 +40,10 @@ count_of before shown =
     if nat_lt (ahead_of before.last shown) (2 ^ 47) then min (before.elapsed + ahead_of before.last shown) most
     else before.elapsed + ahead_of before.last shown - turn
 
+-- the ticks from one 48-bit value back to another, or 0 if the other is nearer ahead
+abbrev pub back_of : (last shown : ℕ) → ℕ
+back_of last shown = if nat_lt (ahead_of last shown) (2 ^ 47) then 0 else turn - ahead_of last shown
+
 -- the state after a value is believed
 abbrev pub followed : Counted → ℕ → Counted
 followed before shown = counted_at shown (count_of before shown)

@@ -14,10 +14,10 @@ use Rattle.sq_feed.specs.declared.message.Time.TheVariants.{Unknown, Ticks, Mill
 use Rattle.sq_feed.specs.Counts.{Tally, counted, counted_rows, nothing_counted}
 use Rattle.sq_feed.specs.declared.manner.Manner.{Manner}
 use Rattle.sq_feed.specs.Clock.{rate, turn}
-use Rattle.sq_feed.specs.Dates.{Judged, ended, gone_all, is_calm, is_timed, judged, new_dates, started, timed_all, waiting}
+use Rattle.sq_feed.specs.Dates.{Judged, ended, gone_all, is_calm, is_timed, judged, longer_run, new_dates, started, timed_all, waiting}
 use Rattle.sq_feed.specs.declared.dates.Dates.{Dates}
 use Rattle.sq_feed.specs.declared.message.Message.{Message}
-use Rattle.sq_feed.specs.Times.{Timing, by_arrival, clock_time, clocked, due, is_clockless, no_times, other_times, told_as}
+use Rattle.sq_feed.specs.Times.{Timing, by_arrival, clock_time, clocked, due, is_beyond_zero, is_clockless, no_times, other_times, told_as}
 
 -- the state: the times, the own times of frames, whether the first of these was that of a row, whether frames of all
 -- downlink formats are given, the counts, and what the last source without frames was, if there was one
@@ -113,11 +113,16 @@ with_row ear = record ear { is_dated = not (is_timed ear.dates) || ear.is_dated 
 abbrev pub clock_one : Hears → (shown arrival : ℕ) → List ℕ → Timed
 clock_one ear shown arrival frame = record { moment = clock_time ear.times shown arrival; frame = frame }
 
--- the first value starts the clock
+-- The first value starts the clock. A value that counts back far beyond 0 jumps.
+abbrev pub judged_with : Timing → (shown : ℕ) → Dates → (arrival : ℕ) → Timed → Judged
+judged_with t shown d arrival one =
+    if not t.clock.is_heard then started d one
+    else if is_beyond_zero t shown then longer_run d.run t d arrival one
+    else judged t d arrival one
+
 abbrev pub clock_judged : Hears → (shown arrival : ℕ) → List ℕ → Judged
 clock_judged ear shown arrival frame =
-    if not ear.times.clock.is_heard then started ear.dates (clock_one ear shown arrival frame)
-    else judged ear.times ear.dates arrival (clock_one ear shown arrival frame)
+    judged_with ear.times shown ear.dates arrival (clock_one ear shown arrival frame)
 
 -- The clock counts on from this value if its time is believed: then no frame waits.
 abbrev pub with_clock : Hears → (shown arrival : ℕ) → Judged → Hears

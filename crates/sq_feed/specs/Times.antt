@@ -1,7 +1,7 @@
 -- The timestamps of frames: by their own times or by their arrival.
 use Rattle.std.specs.Prelude.{◌==◌, ◌+◌, ◌-◌, ◌*◌, ◌/◌, ℕ, Bool, not, ◌||◌, ◌&&◌, max, min, nat_le, nat_lt, if◌then◌else◌}
 use Rattle.sq_feed.specs.declared.manner.Manner.{Manner}
-use Rattle.sq_feed.specs.Clock.{Counted, count_of, counted_at, followed, most, rate, restarted, unheard}
+use Rattle.sq_feed.specs.Clock.{Counted, back_of, count_of, counted_at, followed, most, rate, restarted, unheard}
 
 -- The state: the receiver's clock; whether arrivals are those of a live source; whether the clock is ignored; the
 -- longest gap (ms) that is no jump; by how much (ms) a timestamp may be before the latest one; the latest timestamp,
@@ -98,6 +98,11 @@ tolerance t = max t.late 1000
 -- the time is after this one by at most a leap, or late by no more than times may be
 abbrev pub is_near : Timing → (base moment : ℕ) → Bool
 is_near t base moment = nat_le base (moment + tolerance t) && nat_le moment (base + t.leap)
+
+-- The clock's value counts back beyond 0, by more than times may be late.
+abbrev pub is_beyond_zero : Timing → (shown : ℕ) → Bool
+is_beyond_zero t shown =
+    nat_lt t.clock.elapsed (back_of t.clock.last shown) && nat_lt (tolerance t) (back_of t.clock.last shown / rate)
 
 -- The time is at or after the latest timestamp, by as much as the arrivals of a live source are apart, within a leap.
 abbrev pub is_awaited : Timing → (arrival moment : ℕ) → Bool

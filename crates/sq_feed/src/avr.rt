@@ -1,7 +1,7 @@
 //! The items of AVR text, which is pushed in pieces of any length.
 ghost use Rattle.std.specs.Prelude.{◌≡◌, ◌++◌, ◌<◌, ◌≤◌, ◌*◌, ◌+◌, [], ◌∷◌, None, Some, length, take, option_to_list, OnSome, IfNone, IfSome, slice_index, true, false};
 ghost use Rattle.std.specs.Char.{digit_value};
-ghost use Rattle.sq_feed.specs.Avr.{AreHex, avr_message, avr_to_come, bytes_of, edge_of, is_hex, item_of, items_at, items_at_end};
+ghost use Rattle.sq_feed.specs.Avr.{AreHex, avr_message, avr_to_come, bytes_of, edge_of, is_hex, item_of, items_at};
 ghost use Rattle.sq_feed.specs.Avr.{are_hex, bare, cut_word, frame_of_word, lead, no_word_begun, opened_by, size_of, stray_word, word_of};
 ghost use Rattle.sq_feed.specs.Follows.{Follows};
 ghost use Rattle.sq_feed.specs.Avr.{IsWholeWord, avr_found, mark_of};

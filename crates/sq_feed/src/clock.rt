@@ -1,6 +1,7 @@
 //! Continues the count of a receiver's clock beyond its 48 bits.
 ghost use Rattle.std.specs.Prelude.{◌≡◌, ◌%◌, ◌^◌, true};
-ghost use Rattle.sq_feed.specs.Clock.{count_of, counted_at, restarted, unheard};
+ghost use Rattle.std.specs.Prelude.{Some, None, nat_lt, if◌then◌else◌};
+ghost use Rattle.sq_feed.specs.Clock.{ahead_of, back_of, count_of, counted_at, restarted, unheard};
 
 use std::marker::Model;
 
@@ -50,19 +51,55 @@ impl Clock {
         *is_heard
     }
 
+    // Returns the ticks from the latest value to this one, counted forwards.
+    #[inline(always)]
+    fn ahead(&self, ticks: u64) -> u64
+        ensures { result ≡ ahead_of self.now.last (ticks % 2 ^ 48) }
+    {
+        (ticks % TURN + TURN - self.last) % TURN
+    }
+
     /// Returns the count (ticks) of a value, by its low 48 bits: of the counts with these bits, the one nearest to the
     /// latest count. A count below 0 is 0, and one above 2^64 - 1 is 2^64 - 1.
     #[inline(always)]
     pub fn count(&self, ticks: u64) -> u64
         ensures { result ≡ count_of self.now (ticks % 2 ^ 48) }
     {
-        let shown = ticks % TURN;
-        let ahead = (shown + TURN - self.last) % TURN;
-        if ahead < TURN / 2 {
-            self.elapsed.saturating_add(ahead)
-        } else {
-            self.elapsed.saturating_sub(TURN - ahead)
+        match self.count_on(ticks) {
+            Some(count) => count,
+            None => self.elapsed.saturating_sub(self.back(ticks)),
         }
+    }
+
+    /// Returns the count (ticks) of a value that is less than half a turn after the latest one.
+    #[inline(always)]
+    pub(crate) fn count_on(&self, ticks: u64) -> Option<u64>
+        ensures { result ≡ (if nat_lt (ahead_of self.now.last (ticks % 2 ^ 48)) (2 ^ 47)
+            then Some (count_of self.now (ticks % 2 ^ 48)) else None) }
+    {
+        let ahead = self.ahead(ticks);
+        if ahead < TURN / 2 {
+            Some(self.elapsed.saturating_add(ahead))
+        } else {
+            None
+        }
+    }
+
+    // Returns the ticks from the latest value back to this one, or 0 if it is nearer ahead.
+    fn back(&self, ticks: u64) -> u64
+        ensures { result ≡ back_of self.now.last (ticks % 2 ^ 48) }
+    {
+        let ahead = self.ahead(ticks);
+        if ahead < TURN / 2 { 0 } else { TURN - ahead }
+    }
+
+    /// Returns the ticks back to a value that counts back beyond 0, or 0 if it does not.
+    pub(crate) fn back_beyond_zero(&self, ticks: u64) -> u64
+        ensures { result ≡ (if nat_lt self.now.elapsed (back_of self.now.last (ticks % 2 ^ 48))
+            then back_of self.now.last (ticks % 2 ^ 48) else 0) }
+    {
+        let back = self.back(ticks);
+        if self.elapsed < back { back } else { 0 }
     }
 
     /// Counts on from a value, by its low 48 bits, that has this count (ticks).

@@ -167,8 +167,8 @@ impl Dates {
         verdict
     }
 
-    // Appends a frame that jumps to the run, or tells the run.
-    fn lengthen(&mut self, times: &Times, arrival: u64, one: Timed) -> Verdict
+    /// Appends a frame that jumps to the run, or tells the run.
+    pub(crate) fn lengthen(&mut self, times: &Times, arrival: u64, one: Timed) -> Verdict
         ensures { IsVerdict (longer_run self.old.run times.now self.old arrival one) result self.new }
     {
         match self.run {

@@ -1,9 +1,9 @@
 //! What becomes of each item: a squitter with its timestamp, or a count.
 ghost use Rattle.std.specs.Prelude.{◌≡◌, ◌≤◌, ◌%◌, ◌^◌, ◌+◌, ◌++◌, [], ◌∷◌, Bool, List, MatchOption, None, ℕ, false, if◌then◌else◌, length, true};
 ghost use Rattle.sq_feed.specs.Counts.{counted_rows};
-ghost use Rattle.sq_feed.specs.Dates.{HasRoom, IsVerdict, gone_all, judged, started, timed_all, waiting};
+ghost use Rattle.sq_feed.specs.Dates.{HasRoom, IsVerdict, gone_all, judged, timed_all, waiting};
 ghost use Rattle.sq_feed.specs.Ears.{clock_judged, ear_after, ear_arrived, ear_at, ear_clocked, ear_ended, ear_judged, fate_of};
-ghost use Rattle.sq_feed.specs.Ears.{fate_of_long, fate_of_short, frame_in, is_multilaterated, padded};
+ghost use Rattle.sq_feed.specs.Ears.{fate_of_long, fate_of_short, frame_in, is_multilaterated, judged_with, padded};
 ghost use Rattle.sq_feed.specs.Ears.{told_at, told_clocked, told_ended, told_judged, told_of, untouched};
 ghost use Rattle.sq_feed.specs.Ears.{whole_of, with_row};
 ghost use Rattle.sq_feed.specs.Times.{due, is_ahead_of_arrivals, is_clockless, other_times, told_as};
@@ -260,7 +260,7 @@ impl Ear {
         if self.times.is_clockless(ticks) || !self.dates.is_calm() || !self.times.has_clock() {
             return None;
         }
-        let count = self.times.count(ticks);
+        let count = self.times.count_on(ticks)?;
         let moment = self.dates.own(count / RATE);
         if !self.times.follows(moment) {
             return None;
@@ -307,31 +307,32 @@ impl Ear {
             (clock_judged self.old (ticks % 2 ^ 48) arrival frame) }
         ensures room { HasRoom ready.new.items self.new.dates }
     {
-        let starts = !self.times.has_clock();
-        let count = if starts {
-            self.times.start(ticks, arrival)
-        } else {
+        let count = if self.times.has_clock() {
             self.times.count(ticks)
+        } else {
+            self.times.start(ticks, arrival)
         };
         let one = Timed {
             moment: count / RATE,
             frame,
         };
-        let verdict = self.judge_clock(starts, arrival, one);
+        let verdict = self.judge_clock(ticks, arrival, one);
         if self.dates.is_calm() {
             self.times.follow(ticks, count);
         }
         self.tell(&verdict, arrival, ready);
     }
 
-    // Decides about a frame with a clock, which starts it or goes on with it.
-    fn judge_clock(&mut self, starts: bool, arrival: u64, one: Timed) -> Verdict
-        ensures verdict { IsVerdict (if starts then started self.old.dates one
-            else judged self.old.times self.old.dates arrival one) result self.new.dates }
+    // Decides about a frame with a clock, which starts it, goes on with it, or counts back far beyond 0.
+    fn judge_clock(&mut self, ticks: u64, arrival: u64, one: Timed) -> Verdict
+        ensures verdict { IsVerdict (judged_with self.old.times (ticks % 2 ^ 48) self.old.dates arrival one)
+            result self.new.dates }
         ensures same { self.new ≡ record self.old { dates = self.new.dates } }
     {
-        if starts {
+        if !self.times.has_clock() {
             self.dates.start(one)
+        } else if self.times.is_beyond_zero(ticks) {
+            self.dates.lengthen(&self.times, arrival, one)
         } else {
             self.dates.judge(&self.times, arrival, one)
         }

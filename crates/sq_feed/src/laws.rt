@@ -1,6 +1,6 @@
 //! Laws of streams, texts and clocks. A function with an empty body does nothing: its contract is the law.
 ghost use Rattle.std.specs.Prelude.{true};
-ghost use Rattle.sq_feed.specs.Laws.{GivesTheStream, Sent, SentIsFound};
+ghost use Rattle.sq_feed.specs.Laws.{GivesTheStream, SentIsFound};
 ghost use Rattle.sq_feed.specs.Laws.{SentIsFoundAnywhere, StartSplits};
 ghost use Rattle.sq_feed.specs.Shown.{AvrLineIsShown, AvrLinesAreShown, BeastIsShown, LineIsShown, SentBeastIsShown};
 ghost use Rattle.sq_feed.specs.Shown.{SentTextIsShown};

@@ -1,7 +1,7 @@
 //! Lines of a log, in the form that `track` reads.
 ghost use Rattle.std.specs.Prelude.{◌≡◌, ◌+◌, ◌*◌, ◌≤◌, ◌++◌, length, take};
 ghost use Rattle.sq_digits.specs.Buffer.{text_len};
-ghost use Rattle.sq_feed.specs.Lines.{line_tail, log_line, tail_of};
+ghost use Rattle.sq_feed.specs.Lines.{log_line, tail_of};
 
 use sq_digits::{TextBuffer, push_byte, push_decimal};
 

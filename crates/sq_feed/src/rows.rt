@@ -1,8 +1,8 @@
 //! Reads the lines of a log and the rows of a CSV table, one item a line. The text comes in pieces of any length.
 ghost use Rattle.std.specs.Prelude.{◌≡◌, ◌≢◌, ◌≤◌, ◌<◌, Some, [], ◌∷◌, length, take, option_to_list, IfSome, true, false};
 ghost use Rattle.sq_feed.specs.Follows.{Follows};
-ghost use Rattle.sq_feed.specs.Rows.{IsHeld, columns_of, csv_message, csv_start, cut_row, first_is, first_of, frame_in, frame_of_text, items_of_row};
-ghost use Rattle.sq_feed.specs.Rows.{last_is, line_of, log_message, message_at, millis_in, no_row_begun, row_read, rows_to_come, text_read, time_column, without_first, without_last, without_mark};
+ghost use Rattle.sq_feed.specs.Rows.{IsHeld, columns_of, csv_message, csv_start, cut_row, first_is, frame_in, frame_of_text};
+ghost use Rattle.sq_feed.specs.Rows.{last_is, line_of, log_message, millis_in, no_row_begun, row_read, rows_to_come, time_column, without_first, without_last, without_mark};
 ghost use Rattle.sq_feed.specs.Avr.{frame_of_word};
 ghost use Rattle.sq_feed.specs.Cells.{cell_of};
 

@@ -1,7 +1,7 @@
 //! The timestamps of frames: by their own times or by their arrival.
-ghost use Rattle.std.specs.Prelude.{◌≡◌, ◌&&◌, nat_le, true, ◌+◌, ◌%◌, ◌^◌, ◌≤◌};
-ghost use Rattle.sq_feed.specs.Clock.{count_of, counted_at};
-ghost use Rattle.sq_feed.specs.Times.{anew_of, beyond, by_arrival, due, gone_on};
+ghost use Rattle.std.specs.Prelude.{◌≡◌, ◌&&◌, nat_le, nat_lt, true, ◌+◌, ◌%◌, ◌^◌, ◌≤◌, Some, None, if◌then◌else◌};
+ghost use Rattle.sq_feed.specs.Clock.{ahead_of, count_of, counted_at};
+ghost use Rattle.sq_feed.specs.Times.{anew_of, beyond, by_arrival, due, gone_on, is_beyond_zero};
 ghost use Rattle.sq_feed.specs.Times.{is_ahead_of_arrivals, is_awaited, is_clockless, is_near, no_times, other_times};
 ghost use Rattle.sq_feed.specs.Times.{resumed, start_of, told_as};
 
@@ -119,6 +119,22 @@ impl Times {
         ensures { result ≡ count_of self.now.clock (ticks % 2 ^ 48) }
     {
         self.clock.count(ticks)
+    }
+
+    /// Returns the count (ticks) of a value that is less than half a turn after the latest one.
+    #[inline(always)]
+    pub(crate) fn count_on(&self, ticks: u64) -> Option<u64>
+        ensures { result ≡ (if nat_lt (ahead_of self.now.clock.last (ticks % 2 ^ 48)) (2 ^ 47)
+            then Some (count_of self.now.clock (ticks % 2 ^ 48)) else None) }
+    {
+        self.clock.count_on(ticks)
+    }
+
+    /// Returns whether a value of the receiver's clock counts back beyond 0, by more than times may be late.
+    pub(crate) fn is_beyond_zero(&self, ticks: u64) -> bool
+        ensures { result ≡ is_beyond_zero self.now (ticks % 2 ^ 48) }
+    {
+        self.clock.back_beyond_zero(ticks) / RATE > self.late.max(JITTER)
     }
 
     /// Counts on from a value of the receiver's clock with this count (ticks).

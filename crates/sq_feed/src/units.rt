@@ -1,6 +1,6 @@
 //! The unit of timestamps, by how far apart the squitters of an aircraft are.
 ghost use Rattle.std.specs.Prelude.{◌≡◌, ◌<◌, ◌^◌, ◌%◌};
-ghost use Rattle.sq_feed.specs.Units.{address_in, beyond_in_nanos, heard_again, heard_first, is_beyond, is_gps};
+ghost use Rattle.sq_feed.specs.Units.{address_in, beyond_in_nanos, heard_again, is_gps};
 ghost use Rattle.sq_feed.specs.Units.{is_in_micros, is_in_nanos, is_in_seconds, is_since, leaves_out, no_gaps};
 ghost use Rattle.sq_feed.specs.Units.{nothing_watched, one_gap, part_of, placed, timed, unit_by_gaps, unit_of};
 ghost use Rattle.sq_feed.specs.Units.{watched, watched_one};
