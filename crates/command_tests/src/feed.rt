@@ -344,13 +344,13 @@ fn refuses_an_input_in_which_all_is_damaged(rt: HostRuntime) {
             b"x\n".as_slice(),
             Status::Refused,
             b"".as_slice(),
-            "0 written, 1 damaged: try without --format; the times of a table are seconds\n",
+            "0 written, 1 damaged: try another --format, or none; the times of a table are seconds\n",
         ),
         (
             b"x\ny\n".as_slice(),
             Status::Refused,
             b"".as_slice(),
-            "0 written, 2 damaged: try without --format; the times of a table are seconds\n",
+            "0 written, 2 damaged: try another --format, or none; the times of a table are seconds\n",
         ),
         (b"".as_slice(), Status::Good, b"".as_slice(), "0 written\n"),
         (

@@ -1,6 +1,5 @@
 //! The log machine with a job of its own: pieces in, results out, however the log is cut into pieces.
 ghost use Rattle.std.specs.Prelude.{◌≡◌, Err, List, ℕ, ⊤};
-ghost use Rattle.sq_log.specs.Answers.{Manner};
 ghost use Rattle.sq_text.specs.declared.faults.LineFault.TheVariants.{Full};
 
 use sq_log::{Answer, Job, LineFault, Log, Step, Tally, Verdict};

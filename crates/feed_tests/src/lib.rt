@@ -1,18 +1,14 @@
-//! Tests of feeds: machines, clocks, times, counts, formats that are found, orders, units of
-//! timestamps, and feeds of each format.
+//! Tests of feeds: machines, slots, counts, clocks, orders, and units of timestamps. The vectors have the lines of
+//! sources.
 #![tactic(auto)]
 
 mod fed;
 #[cfg(test)]
 mod feeds;
 #[cfg(test)]
-mod formats;
-#[cfg(test)]
 mod machines;
 #[cfg(test)]
 mod orders;
-#[cfg(test)]
-mod times;
 #[cfg(test)]
 mod units;
 
