@@ -1,5 +1,5 @@
 -- Squitters, and squitters with their timestamps, are equal by `==` exactly if they are the same.
-use Rattle.std.proofs.Common.{◌≡◌, ◌↔◌, ◌&&◌, IsTrue, Bool, true, false, ap, refl, rules, subst}
+use Rattle.std.proofs.Common.{◌≡◌, ◌↔◌, ◌&&◌, eqb, IsTrue, Bool, true, false, ap, refl, rules, subst}
 use Rattle.std.proofs.Math.Bool.{beq}
 use Rattle.std.proofs.lemmas.Bool.{and_from, and_parts, eq-eqb, eqb-true}
 use Rattle.std.specs.Cmp.Rules.{comparing}
@@ -12,6 +12,7 @@ use Rattle.sq_cpr.proofs.Grids.SameCode.{same_code}
 use Rattle.sq_message.specs.declared.air.AirFields.{AirFields}
 use Rattle.sq_message.specs.declared.message.PositionMessage.{PositionMessage}
 use Rattle.sq_message.specs.declared.ground.GroundFields.{GroundFields}
+use Rattle.sq_message.specs.declared.head.Head.{Head}
 use Rattle.sq_message.specs.declared.received.Received.{Received}
 use Rattle.sq_message.specs.declared.squitter.Me.{Me}
 use Rattle.sq_message.specs.declared.squitter.Me.TheVariants as kinds
@@ -28,10 +29,6 @@ one_bit true true h = refl
 one_bit true false h = absurd (cc h)
 one_bit false true h = absurd (cc h)
 one_bit false false h = refl
-
-bit_itself : (a : Bool) → beq a a ≡ true
-bit_itself true = refl
-bit_itself false = refl
 
 one_parity : (p q : Parity) → parities.eq p q ≡ true → p ≡ q
 one_parity Even Even h = refl
@@ -117,9 +114,6 @@ squitter_itself : (a : Squitter) → squitters.eq a a ≡ true
 squitter_itself a =
     and_from _ _ (eq-eqb a.ca a.ca refl) (and_from _ _ (eq-eqb a.address a.address refl) (me_itself a.me))
 
-pub equal_squitters : (a b : Squitter) → IsTrue (squitters.eq a b) ↔ (a ≡ b)
-equal_squitters a b = (one_squitter a b, λ e. subst (λ x. squitters.eq a x ≡ true) e (squitter_itself a))
-
 one_received : (a b : Received) → moments.eq a b ≡ true → a ≡ b
 one_received a b h =
     let p = and_parts _ (squitters.eq a.squitter b.squitter) h in
@@ -132,3 +126,29 @@ received_itself a = and_from _ _ (eq-eqb a.moment a.moment refl) (squitter_itsel
 
 pub equal_received : (a b : Received) → IsTrue (moments.eq a b) ↔ (a ≡ b)
 equal_received a b = (one_received a b, λ e. subst (λ x. moments.eq a x ≡ true) e (received_itself a))
+
+abbrev pub are_equal : {Fields : Type 0} → (Fields → Fields → Bool) → (a b : Head Fields) → Bool
+are_equal eq a b = eqb a.ca b.ca && (eqb a.address b.address && eq a.fields b.fields)
+
+-- if `==` is exact for fields, it is exact for heads
+equal_heads : {Fields : Type 0} (eq : Fields → Fields → Bool) → ((x y : Fields) → eq x y ≡ true → x ≡ y)
+    → ((x : Fields) → eq x x ≡ true) → (a b : Head Fields) → IsTrue (are_equal eq a b) ↔ (a ≡ b)
+equal_heads eq one itself a b = (same, λ e. subst (λ x. are_equal eq a x ≡ true) e whole)
+  where
+    same : are_equal eq a b ≡ true → a ≡ b
+    same h =
+        let p = and_parts (eqb a.ca b.ca) _ h in
+        let q = and_parts (eqb a.address b.address) (eq a.fields b.fields) p.1 in
+        let ca = eqb-true a.ca b.ca p.0 in
+        let address = eqb-true a.address b.address q.0 in
+        let fields = one a.fields b.fields q.1 in
+        λ i. record { ca = ca i; address = address i; fields = fields i }
+
+    whole : are_equal eq a a ≡ true
+    whole = and_from _ _ (eq-eqb a.ca a.ca refl) (and_from _ _ (eq-eqb a.address a.address refl) (itself a.fields))
+
+pub equal_air_heads : (a b : Head AirFields) → IsTrue (are_equal air_fields.eq a b) ↔ (a ≡ b)
+equal_air_heads a b = equal_heads air_fields.eq one_air_fields air_fields_itself a b
+
+pub equal_ground_heads : (a b : Head GroundFields) → IsTrue (are_equal ground_fields.eq a b) ↔ (a ≡ b)
+equal_ground_heads a b = equal_heads ground_fields.eq one_ground_fields ground_fields_itself a b

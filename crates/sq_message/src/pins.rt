@@ -16,7 +16,9 @@ ghost use Rattle.sq_message.specs.Headline.{SomeLocalPlace, SomePairPlace};
 ghost use Rattle.sq_message.specs.Exactly.{NearReferenceExactly, LieAtExactly};
 ghost use Rattle.sq_message.specs.Spelling.{IsReading, Spells};
 
-use crate::{Altitude, Frame, FrameFault, Kind, Place, PlaceFault, Received, Squitter};
+use crate::{
+    AirHead, Altitude, Frame, FrameFault, GroundHead, Kind, Place, PlaceFault, Received, Squitter,
+};
 
 /// A frame has at most one reading.
 pub fn one_reading()
@@ -92,6 +94,20 @@ pub fn equal_squitters(squitter: &Squitter, other: &Squitter) -> bool
     ensures { IsTrue result ↔ (squitter.now ≡ other.now) }
 {
     squitter == other
+}
+
+/// Compares two heads in the air by `==`, which is true exactly if they are the same.
+pub fn equal_air_heads(head: &AirHead, other: &AirHead) -> bool
+    ensures { IsTrue result ↔ (head.now ≡ other.now) }
+{
+    head == other
+}
+
+/// Compares two heads on the ground by `==`, which is true exactly if they are the same.
+pub fn equal_ground_heads(ground: &GroundHead, other: &GroundHead) -> bool
+    ensures { IsTrue result ↔ (ground.now ≡ other.now) }
+{
+    ground == other
 }
 
 /// Compares two squitters with their timestamps by `==`, which is true exactly if they are the same.
