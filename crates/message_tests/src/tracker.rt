@@ -4,4 +4,5 @@ mod memory;
 mod restoring;
 mod runs;
 mod told;
+mod watching;
 mod worlds;

@@ -15,4 +15,5 @@ pub mod LinkLemmas
 pub mod RoundLemmas
 pub mod PlaceLemmas
 pub mod WalkLemmas
+pub mod SinceLemmas
 pub mod RestoreLemmas

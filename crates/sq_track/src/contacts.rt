@@ -1,7 +1,7 @@
 //! The decoder state of each address, in the order of last hearing.
 ghost use Rattle.std.specs.Prelude.{Option, option_copied, ◌≡◌, ℕ, ◌+◌, ◌^◌, ◌<◌, ◌++◌};
 ghost use Rattle.std.specs.Prelude.{is_some, nat_eq, Some, None, length, slice_get, if◌then◌else◌, IfOk, IfSome, OnErr};
-ghost use Rattle.std.specs.Prelude.{[], ◌∷◌, ◌≤◌};
+ghost use Rattle.std.specs.Prelude.{[], ◌∷◌, ◌≤◌, reverse};
 ghost use Rattle.std.specs.List.{IsDistinct, swap_remove};
 ghost use Rattle.std.specs.Map.{keys_of, lookup};
 ghost use Rattle.indexmap.specs.IndexMap.{index_map_len, values, with_value_at};
@@ -319,6 +319,31 @@ impl<A: Allocator> Contacts<A> {
         match moment_at(&self.table, links_at(links, self.oldest).before) {
             Some((_, newest)) => newest,
             None => 0,
+        }
+    }
+
+    /// Returns the last heard address, and its contact.
+    pub fn newest(&self) -> Option<(u32, Contact)>
+        ensures { result ≡ slice_get (reverse self.now) 0 }
+    {
+        let links: &[Neighbours] = &self.links;
+        if self.table.len() == 0 {
+            return None;
+        }
+        entry_at(&self.table, links_at(links, self.oldest).before)
+    }
+
+    /// Returns the entry after the one at an index, the last heard first, given the address at the index.
+    pub fn entry_ahead(&self, index: usize, address: u32) -> Option<(u32, Contact)>
+        requires { (contact : Contact) × (slice_get (reverse self.now) index ≡ Some (address, contact)) }
+        ensures { result ≡ slice_get (reverse self.now) (index + 1) }
+    {
+        if index >= self.table.len().saturating_sub(1) {
+            return None;
+        }
+        match self.table.get_index_of(&address) {
+            Some(at) => entry_at(&self.table, links_at(&self.links, at as u32).before),
+            None => None,
         }
     }
 

@@ -18,6 +18,7 @@ mod listening;
 mod owned;
 pub mod pins;
 mod tracker;
+mod watch;
 pub mod worked;
 
 pub use contact::{Contact, LastFix, Side};
@@ -25,3 +26,4 @@ pub use heard::{Heard, RestoreFault, TrackFault};
 pub use listening::hear_each;
 pub use sq_message::{Place, Position, Received, Squitter};
 pub use tracker::Tracker;
+pub use watch::Watch;

@@ -1,7 +1,6 @@
 //! Checks whether a tracker may hold a contact for an address.
 ghost use Rattle.std.specs.Prelude.{◌≡◌, option_copied, true};
 ghost use Rattle.sq_angle.specs.Angle.{degrees};
-ghost use Rattle.sq_message.specs.Parts.{squitter_parts};
 ghost use Rattle.sq_track.specs.Owned.{AreFixesPlaced, IfPlaced, IsPlacedFix, IsPointAt, are_one_parity};
 ghost use Rattle.sq_track.specs.Owned.{has_frames_of, has_since, is_contact_of, is_frame_of, is_position_of};
 ghost use Rattle.sq_track.specs.Owned.{is_present_at, is_side_of, is_since};

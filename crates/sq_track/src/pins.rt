@@ -1,6 +1,7 @@
 //! Guards of the definitions: each has one value, some value or an exact condition, so none can be weakened unnoticed.
 //! A function with an empty body does nothing: its contract is the statement.
-ghost use Rattle.std.specs.Prelude.{◌≡◌, ◌↔◌, IsTrue};
+ghost use Rattle.std.specs.Prelude.{◌≡◌, ◌↔◌, IsTrue, false, true};
+ghost use Rattle.sq_angle.specs.Fraction.{opposite, whole};
 ghost use Rattle.sq_track.specs.ByEntries.{MemoryByEntries, OneByEntries, OneEachByEntries, SomeByEntries};
 ghost use Rattle.sq_track.specs.Laws.{OneAddressAlone};
 ghost use Rattle.sq_track.specs.Laws.{SlowPairExactly};
@@ -11,6 +12,7 @@ ghost use Rattle.sq_track.specs.Pinned.{HearingKeeps, HearingKeepsNothing, Heari
 ghost use Rattle.sq_track.specs.Pinned.{OnePlaceAt180, OnePlaceExactly, StandsExactly};
 ghost use Rattle.sq_track.specs.Pinned.{PlacesExactly, TamePairExactly};
 ghost use Rattle.sq_track.specs.Pinned.{TameForFollowingPairExactly};
+ghost use Rattle.sq_track.specs.Watch.{gap, is_longer, parts, round_gap, way_at, whole_miles};
 
 use crate::heard::{Heard, TrackFault};
 
@@ -133,3 +135,23 @@ pub fn equal_track_faults(fault: &TrackFault, other: &TrackFault) -> bool
 {
     fault == other
 }
+
+/// A degree of latitude is sixty miles long.
+pub fn miles_of_latitude()
+    ensures at { is_longer (whole_miles 60) 60 (gap (whole 0) (whole 1)) (parts (whole 0) (whole 1)) ≡ false }
+    ensures above { is_longer (whole_miles 59) 60 (gap (whole 0) (whole 1)) (parts (whole 0) (whole 1)) ≡ true }
+    ensures south { is_longer (whole_miles 119) 60 (gap (opposite (whole 1)) (whole 1)) 1 ≡ true }
+{}
+
+/// Longitudes are compared the shorter way round.
+pub fn miles_of_longitude()
+    ensures round { round_gap (whole 179) (opposite (whole 179)) ≡ 2 }
+    ensures half { round_gap (whole 90) (opposite (whole 90)) ≡ 180 }
+{}
+
+/// At 3,600 knots a second is a mile long; one mile more is always allowed.
+pub fn miles_of_a_second()
+    ensures second { is_longer (way_at 3600 1000) 60 2 60 ≡ false }
+    ensures more { is_longer (way_at 3600 999) 60 2 60 ≡ true }
+    ensures none { is_longer (way_at 3600 0) 60 1 60 ≡ false }
+{}

@@ -49,4 +49,25 @@ pub fn assert_table(rt: &impl Abort, tracker: &Tracker, table: &[(u32, u64)]) {
     for index in 0..=table.len() {
         assert!(rt; tracker.get(index) == table.get(index).copied());
     }
+    assert_present(rt, tracker, table, 0);
+    for (_, moment) in table {
+        assert_present(rt, tracker, table, *moment);
+        assert_present(rt, tracker, table, moment.saturating_add(1));
+    }
+}
+
+// Asserts that these addresses are present, the last heard first, and none of them that was heard before `since` (ms).
+fn assert_present(rt: &impl Abort, tracker: &Tracker, table: &[(u32, u64)], since: u64) {
+    let mut index = 0;
+    for behind in 1..=table.len() {
+        let (address, moment) = table[table.len() - behind];
+        if moment >= since {
+            let Some((shown, contact)) = tracker.present(since, index) else {
+                return assert!(rt; false);
+            };
+            assert!(rt; shown == address && contact.moment == moment);
+            index += 1;
+        }
+    }
+    assert!(rt; tracker.present(since, index).is_none());
 }

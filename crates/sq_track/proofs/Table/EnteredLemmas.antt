@@ -23,11 +23,6 @@ abbrev pub held_after : Held → ℕ → Entries → Held
 held_after t m entries =
     record { limit = t.limit; window = t.window; site = t.site; last = Some m; contacts = entries }
 
-pub back_by_entries : (t : Held) (m : ℕ) (q : Squitter) (fault : TrackFault) → IsBack t.last m fault
-    → IsHeardByEntries m q t t (Err fault)
-back_by_entries t m q fault (last, last_is, before, is) =
-    subst (λ (f : TrackFault). IsHeardByEntries m q t t (Err f)) (sym is) (last_is, before, refl)
-
 module _ (t : Held) (m : ℕ) (q : Squitter) (le : IsNotBack t.last m) where
   welcome_other : ¬ IsPosition (squitter_parts q).me → IsWelcomeTo m q t
   welcome_other silent = record { in_time = le; room = λ full. absurd (silent full.position) }

@@ -151,13 +151,6 @@ pub none_kept : (p : ℕ × Contact → Bool) (es : Entries) → None ≡ slice_
 none_kept p [] at = refl
 none_kept p (x ∷ es) at = absurd (false≢true (ap is_some at))
 
-pub none_short : (es : Entries) → None ≡ slice_get es 0 → length es ≡ 0
-none_short [] at = refl
-none_short (x ∷ es) at = absurd (false≢true (ap is_some at))
-
-pub leb-false : (a b : ℕ) → leb a b ≡ false → b < a
-leb-false a b h = grind (arith, nat_tests, h)
-
 pub some_of : (o : Option Contact) → is_some o ≡ true → (c : Contact) × (Some c ≡ o)
 some_of None e = absurd (false≢true e)
 some_of (Some c) e = (c, refl)

@@ -1,18 +1,20 @@
 -- From one entry of the order to the next, and to the last.
-use Rattle.std.proofs.Common.{◌≡◌, ℕ, zero, suc, ◌+◌, ◌<◌, Bool, true, false, ◌||◌, eqb, List, [], ◌∷◌, ◌++◌, length, slice_get}
+use Rattle.std.proofs.Common.{◌≡◌, ℕ, zero, suc, ◌+◌, ◌<◌, Bool, true, false, ◌||◌, eqb, List, [], ◌∷◌, ◌++◌, length, reverse, slice_get, ◌-◌}
 use Rattle.std.proofs.Common.{Option, Some, None, IfSome, is_some, unwrap_or, refl, sym, ap, ◌∙◌, arith, subst}
 use Rattle.std.specs.List.{AllByRecursion, IsDistinct}
 use Rattle.std.specs.Map.{keys_of, lookup}
 use Rattle.std.specs.Option.{option_map}
 use Rattle.std.proofs.lemmas.Bool.{false≢true, eqb-true, eq-eqb}
-use Rattle.std.proofs.lemmas.List.{length-append}
-use Rattle.std.proofs.lemmas.Option.{slice_get-map}
+use Rattle.std.proofs.lemmas.List.{length-append, length-reverse}
+use Rattle.std.proofs.lemmas.Option.{slice_get-get_or, slice_get-map}
 use Rattle.sq_track.specs.Ordered.{entries_in, entry_of, has_address, moments_in}
 use Rattle.sq_track.specs.Ring.{IsLinkedTable, IsRound, address_at, addresses_in, after_at, before_at, round}
 use Rattle.sq_track.specs.declared.contact.Contact.{Contact}
 use Rattle.sq_track.specs.declared.links.Neighbours.{Neighbours}
-use Rattle.sq_track.proofs.Lists.Rings.{chain-length, ends_path}
-use Rattle.sq_track.proofs.Table.PlaceLemmas.{below_round, by_address, links-length, next_at, seen, seen_moment}
+use Rattle.sq_track.proofs.Lists.Filters.{reverse-cons}
+use Rattle.sq_track.proofs.Lists.Found.{same_some}
+use Rattle.sq_track.proofs.Lists.Rings.{chain-length, chain-next, ends_path}
+use Rattle.sq_track.proofs.Table.PlaceLemmas.{below_round, by_address, links-length, next_at, seen, seen_moment, view-length}
 use Rattle.sq_track.proofs.Table.RoundLemmas.{open_round}
 
 abbrev Entries : Type 0
@@ -92,6 +94,18 @@ behind es ls oldest index at next r table here more lt is r_is found =
     seen es ls oldest (index + 1) next r two.0 (omega (arith, two.1, long)) r_is
     (subst (λ o. IfSome o (λ e. lookup (eqb e.0) es ≡ Some e.1)) (sym r_is) found)
 
+-- an element of two lists, one behind the other
+in_front : {X : Type 0} (xs ys : List X) (k : ℕ) → k < length xs → slice_get (xs ++ ys) k ≡ slice_get xs k
+in_front [] ys k lt = absurd (omega (arith, lt))
+in_front (x ∷ xs) ys zero lt = refl
+in_front (x ∷ xs) ys (suc k) lt = in_front xs ys k (omega (arith, lt))
+
+at_seam : {X : Type 0} (xs : List X) (x : X) (k : ℕ) → k ≡ length xs → slice_get (xs ++ x ∷ []) k ≡ Some x
+at_seam [] x zero e = refl
+at_seam [] x (suc k) e = absurd (omega (arith, e))
+at_seam (y ∷ xs) x zero e = absurd (omega (arith, e))
+at_seam (y ∷ xs) x (suc k) e = at_seam xs x k (omega (arith, e))
+
 -- the last index of the order is the one before the oldest
 last_at : (ls : Links) (oldest k : ℕ) → IsRound ls oldest → k + 1 ≡ length ls
     → slice_get (round ls oldest) k ≡ Some (before_at ls oldest)
@@ -103,13 +117,17 @@ last_at ls oldest k is_round long =
     let whole : round ls oldest ≡ front ++ last ∷ [] = is_open.is ∙ is in
     let size : k ≡ length front =
     omega (arith, long, chain-length (after_at ls) ls oldest, ap length whole, length-append front (last ∷ [])) in
-    ap (λ l. slice_get l k) whole ∙ ends front last k size
-  where
-    ends : (xs : List ℕ) (x i : ℕ) → i ≡ length xs → slice_get (xs ++ x ∷ []) i ≡ Some x
-    ends [] x zero e = refl
-    ends [] x (suc i) e = absurd (omega (arith, e))
-    ends (y ∷ xs) x zero e = absurd (omega (arith, e))
-    ends (y ∷ xs) x (suc i) e = ends xs x i (omega (arith, e))
+    ap (λ l. slice_get l k) whole ∙ at_seam front last k size
+
+-- an element of the reversed list
+pub from_end : {X : Type 0} (xs : List X) (k i : ℕ) → k + i + 1 ≡ length xs → slice_get (reverse xs) k ≡ slice_get xs i
+from_end [] k i size = absurd (omega (arith, size))
+from_end (x ∷ xs) k zero size =
+    ap (λ l. slice_get l k) (reverse-cons x xs)
+    ∙ at_seam (reverse xs) x k (omega (arith, size, length-reverse xs))
+from_end (x ∷ xs) k (suc i) size =
+    ap (λ l. slice_get l k) (reverse-cons x xs)
+    ∙ in_front (reverse xs) (x ∷ []) k (omega (arith, size, length-reverse xs)) ∙ from_end xs k i (omega (arith, size))
 
 -- the entry of the address that was heard last
 pub newest : (es : Entries) (ls : Links) (oldest k at : ℕ) → IsLinkedTable es ls oldest → k + 1 ≡ length es
@@ -126,3 +144,55 @@ newest es ls oldest k at table size is found =
       long,
     ))
     found
+
+-- the last entry of the order
+pub last_entry : (es : Entries) (ls : Links) (oldest at : ℕ) (r : Option (ℕ × Contact)) → IsLinkedTable es ls oldest
+    → 0 < length es → at ≡ before_at ls oldest → r ≡ slice_get es at
+    → IfSome (slice_get es at) (λ e. lookup (eqb e.0) es ≡ Some e.1)
+    → r ≡ slice_get (reverse (entries_in es (addresses_in es ls oldest))) 0
+last_entry es ls oldest at r table some is r_is found =
+    let long = links-length es ls oldest table in
+    let view = view-length es ls oldest table.tied in
+    let k = length es - 1 in
+    seen es ls oldest k at r (last_at ls oldest k table.is_round (omega (arith, some, long)) ∙ ap Some (sym is))
+    (omega (
+      arith,
+      subst (λ i. i < length ls) (sym is)
+          (table.is_round.backward.within oldest (table.is_round.within (omega (arith, some, long)))),
+      long,
+    ))
+    r_is (subst (λ o. IfSome o (λ e. lookup (eqb e.0) es ≡ Some e.1)) (sym r_is) found)
+    ∙ sym (from_end (entries_in es (addresses_in es ls oldest)) 0 k (omega (arith, some, view)))
+
+-- the index before one in the order
+prior_at : (ls : Links) (oldest k at : ℕ) → IsRound ls oldest → slice_get (round ls oldest) (suc k) ≡ Some at
+    → suc k < length ls → slice_get (round ls oldest) k ≡ Some (before_at ls at)
+prior_at ls oldest k at is_round here lt = by (slice_get (round ls oldest) k) refl
+  where
+    by : (o : Option ℕ) → slice_get (round ls oldest) k ≡ o → o ≡ Some (before_at ls at)
+    by None none =
+        absurd (false≢true (ap is_some (sym none
+        ∙ slice_get-get_or (round ls oldest) k 0 (omega (arith, lt, chain-length (after_at ls) ls oldest)))))
+    by (Some i) there =
+        let below : i < length ls =
+        each_at (λ k. k < length ls) (round ls oldest) k i (below_round ls oldest is_round) there in
+        let next : after_at ls i ≡ at =
+        same_some (after_at ls i) at (sym (chain-next (after_at ls) ls oldest k i there lt) ∙ here) in
+        ap Some (sym (is_round.forward.back i below) ∙ ap (before_at ls) next)
+
+-- the entry before one in the order
+pub ahead : (es : Entries) (ls : Links) (oldest index at next : ℕ) (r : Option (ℕ × Contact))
+    → IsLinkedTable es ls oldest → slice_get (round ls oldest) (suc index) ≡ Some at → suc index < length es
+    → at < length es → next ≡ before_at ls at → r ≡ slice_get es next
+    → IfSome (slice_get es next) (λ e. lookup (eqb e.0) es ≡ Some e.1)
+    → r ≡ slice_get (entries_in es (addresses_in es ls oldest)) index
+ahead es ls oldest index at next r table here more lt is r_is found =
+    let long = links-length es ls oldest table in
+    seen es ls oldest index next r
+    (prior_at ls oldest index at table.is_round here (omega (arith, more, long)) ∙ ap Some (sym is))
+    (omega (
+      arith,
+      subst (λ i. i < length ls) (sym is) (table.is_round.backward.within at (omega (arith, lt, long))),
+      long,
+    ))
+    r_is (subst (λ o. IfSome o (λ e. lookup (eqb e.0) es ≡ Some e.1)) (sym r_is) found)
