@@ -120,7 +120,6 @@ enum {
   SQUITTER_NO_MEMORY = 44,       /* the block is too small */
   SQUITTER_NO_LIMIT = 45,        /* the limit is 0 */
   SQUITTER_NO_TRACKER = 46,      /* there is no tracker, log, feed or order */
-  SQUITTER_NO_ADDRESS = 47,      /* no address is at the index */
   SQUITTER_LONG_LOG = 48,        /* a log has 2^63 lines, or a piece more than 2^61 bytes */
   SQUITTER_BAD_FORMAT = 49,      /* no format has this number, or the bytes show no format */
   SQUITTER_BAD_ENTRY = 50        /* no tracker with the same settings can hold the entry at index `first` */
@@ -212,9 +211,9 @@ typedef struct squitter_zones {
   uint8_t odd;
 } squitter_zones;
 
-/* State of one address of a tracker, as squitter_tracker_save writes it. It is plain data, so it may be copied and
- * stored in a file; numbers have the machine's byte order. All bytes of an absent frame or fix are 0. A frame that is
- * not a squitter counts as absent, and so does a position that is out of range. */
+/* State of one address of a tracker, as squitter_tracker_save and squitter_tracker_present write it. It is plain data,
+ * so it may be copied and stored in a file; numbers have the machine's byte order. All bytes of an absent frame or fix
+ * are 0. A frame that is not a squitter counts as absent, and so does a position that is out of range. */
 typedef struct squitter_received { /* a frame, and its timestamp */
   SQUITTER_ALIGNED uint64_t moment;
   uint8_t frame[14];
@@ -235,6 +234,18 @@ typedef struct squitter_entry {
   uint32_t address;
   squitter_side airborne, surface;
 } squitter_entry;
+
+/* What is known of the places of aircraft. 0 means that it is not known. */
+typedef struct squitter_watch {
+  uint32_t range; /* no aircraft is further from the site than so many nautical miles */
+  uint32_t speed; /* no aircraft is faster than so many knots */
+} squitter_watch;
+
+/* Why a place cannot be true. */
+enum {
+  SQUITTER_BEYOND_RANGE = 1, /* it is further from the site than the range */
+  SQUITTER_TOO_FAST = 2      /* the aircraft would be faster than the speed */
+};
 
 /* Timestamp of the last frame that a tracker accepted. `heard` is 1, or 0 if the tracker has accepted no frame.
  * squitter_tracker_restore takes every other number as 1, and ignores `moment` if `heard` is 0. */
@@ -274,12 +285,6 @@ typedef struct squitter_tracker {
   uint64_t full;
   squitter_at at;
 } squitter_tracker;
-
-/* An address that is present in a tracker, and the timestamp of its newest position. */
-typedef struct squitter_present {
-  SQUITTER_ALIGNED uint64_t moment;
-  uint32_t address;
-} squitter_present;
 
 /* A log that is passed in pieces and decoded as by `squitter track`. The rules for squitter_tracker apply. */
 typedef struct squitter_log {
@@ -420,10 +425,12 @@ size_t squitter_tracker_hear_many(squitter_tracker *SQUITTER_RESTRICT tracker, c
 /* Returns the number of present addresses, at most the limit; 0 without a tracker. */
 size_t squitter_tracker_len(squitter_tracker *tracker) SQUITTER_CALL;
 
-/* Writes the present address at an index, the longest silent first. The time grows with the index. Faults: NO_TRACKER,
- * NO_ADDRESS (the index is at least squitter_tracker_len). */
-squitter_fault squitter_tracker_get(squitter_tracker *SQUITTER_RESTRICT tracker, size_t index,
-                                    squitter_present *SQUITTER_RESTRICT out) SQUITTER_CALL;
+/* Writes the state of each address that was heard at or after `since`, the last heard first, from index `from` on, as
+ * many as fit. Returns the number of entries that it wrote. If it is entries_count, call again with `from` greater by
+ * that number. With `since` 0 these are all present addresses; a later time gives those with a position since then.
+ * Without a tracker it returns 0 and writes nothing. */
+size_t squitter_tracker_present(squitter_tracker *SQUITTER_RESTRICT tracker, uint64_t since, size_t from,
+                                squitter_entry *SQUITTER_RESTRICT entries, size_t entries_count) SQUITTER_CALL;
 
 /* Writes the state of a tracker: *last, and the entries of the present addresses, as many as fit, the longest silent
  * first. Returns the number of present addresses. Without a tracker it returns 0 and writes nothing. */
@@ -443,6 +450,15 @@ size_t squitter_tracker_save(squitter_tracker *SQUITTER_RESTRICT tracker, squitt
  * Faults: NO_TRACKER, BAD_ENTRY (`first` is the index). After BAD_ENTRY the tracker is as if it had heard no frame. */
 squitter_fault squitter_tracker_restore(squitter_tracker *SQUITTER_RESTRICT tracker, const squitter_last *last,
                                         const squitter_entry *entries, size_t entries_count) SQUITTER_CALL;
+
+/* Returns why a place at `moment` cannot be true: the sum of SQUITTER_BEYOND_RANGE, if the range is known and the place
+ * is further from the site, and SQUITTER_TOO_FAST, if the speed is known and the place is further from the one before
+ * it than the aircraft comes at this speed, and a nautical mile; 0 if neither is so. Two places are further apart than
+ * so many miles if their latitudes differ by more than miles / 60 degrees, or their longitudes, the shorter way round,
+ * by more than miles / NL degrees, where NL is the smaller zone count of the two and at least 2. A position that is out
+ * of range counts as absent: such a place has no doubts. So zeros mean no site, and no place before. */
+uint32_t squitter_doubts(const squitter_watch *watch, const squitter_position *site, const squitter_last_fix *before,
+                         uint64_t moment, const squitter_position *place) SQUITTER_CALL;
 
 /* ---- A log ---- */
 
@@ -507,6 +523,10 @@ squitter_fault squitter_log_finish_text(squitter_log *SQUITTER_RESTRICT log, uin
 /* Writes the numbers of good and of refused lines so far. Fault: NO_TRACKER. */
 squitter_fault squitter_log_tally(squitter_log *SQUITTER_RESTRICT log,
                                   squitter_tally *SQUITTER_RESTRICT out) SQUITTER_CALL;
+
+/* Writes the addresses of the log that are present, as squitter_tracker_present does. */
+size_t squitter_log_present(squitter_log *SQUITTER_RESTRICT log, uint64_t since, size_t from,
+                            squitter_entry *SQUITTER_RESTRICT entries, size_t entries_count) SQUITTER_CALL;
 
 /* ---- A feed ---- */
 
@@ -780,10 +800,10 @@ SQUITTER_SIZE(squitter_last_fix, 40);
 SQUITTER_SIZE(squitter_side, 88);
 SQUITTER_SIZE(squitter_entry, 192);
 SQUITTER_SIZE(squitter_last, 16);
+SQUITTER_SIZE(squitter_watch, 8);
 SQUITTER_SIZE(squitter_heard, 40);
 SQUITTER_SIZE(squitter_degrees_e7, 8);
 SQUITTER_SIZE(squitter_tracker, 16);
-SQUITTER_SIZE(squitter_present, 16);
 SQUITTER_SIZE(squitter_log, 16);
 SQUITTER_SIZE(squitter_answer, 96);
 SQUITTER_SIZE(squitter_tally, 16);

@@ -6,6 +6,8 @@ const FRAME_BYTES = 14; // of a frame
 const FRAME_DIGITS = 28; // of a frame's text, without a zero at its end
 const ANGLE_TEXT_BYTES = 16; // room for an angle's text and the zeros after it
 const FAULT_TEXT_BYTES = 64; // room for a fault's text and the zeros after it
+const BEYOND_RANGE = 1; // it is further from the site than the range
+const TOO_FAST = 2; // the aircraft would be faster than the speed
 const HEADER_BYTES = 64; // room for the header of a format and the zeros after it
 const ANSWER_TEXT_BYTES = 512; // the most that the text of one line takes
 const FEED_LIVE = 1; // arrivals say when the bytes were received; otherwise they have no effect
@@ -17,7 +19,7 @@ const Code = Object.freeze({
   OTHER_KIND: 12, SAME_PARITY: 13, NO_SITE: 14, OUT_OF_RANGE: 15, ZONE_COUNTS: 16, BAD_POSITION: 20, BAD_FIELDS: 21,
   BAD_ANGLE: 22, BAD_LATITUDE: 23, BAD_FEET: 24, BAD_PARITY: 25, NOT_A_NUMBER: 30, TOO_MANY_DECIMALS: 31,
   ANGLE_RANGE: 32, LONG_LINE: 40, BAD_MOMENT: 41, MOMENT_BACK: 42, TABLE_FULL: 43, NO_MEMORY: 44, NO_LIMIT: 45,
-  NO_TRACKER: 46, NO_ADDRESS: 47, LONG_LOG: 48, BAD_FORMAT: 49, BAD_ENTRY: 50,
+  NO_TRACKER: 46, LONG_LOG: 48, BAD_FORMAT: 49, BAD_ENTRY: 50,
 });
 const Kind = Object.freeze({ OTHER: 0, AIR: 1, GROUND: 2 });
 const AltitudeForm = Object.freeze({ NONE: 0, FEET: 1, OTHER: 2 });
@@ -33,7 +35,7 @@ const Unit = Object.freeze({
 });
 const BYTES = Object.freeze({
   fault: 16, angle: 16, position: 32, degreesE7: 8, fields: 40, airHead: 12, groundHead: 12, altitude: 8, zones: 16,
-  received: 24, lastFix: 40, side: 88, entry: 192, last: 16, heard: 40, block: 16, tracker: 16, present: 16, log: 16,
+  received: 24, lastFix: 40, side: 88, entry: 192, watch: 8, last: 16, heard: 40, block: 16, tracker: 16, log: 16,
   answer: 96, done: 16, tally: 16, feed: 16, order: 16, counts: 272,
 });
 const AT = Object.freeze({
@@ -55,11 +57,11 @@ const AT = Object.freeze({
   lastFix: Object.freeze({ moment: 0, position: 8 }),
   side: Object.freeze({ even: 0, odd: 24, fix: 48 }),
   entry: Object.freeze({ moment: 0, address: 8, airborne: 16, surface: 104 }),
+  watch: Object.freeze({ range: 0, speed: 4 }),
   last: Object.freeze({ moment: 0, heard: 8 }),
   heard: Object.freeze({ position: 0, what: 32, even: 33, odd: 34 }),
   block: Object.freeze({ size: 0, memory: 8 }),
   tracker: Object.freeze({ full: 0, at: 8 }),
-  present: Object.freeze({ moment: 0, address: 8 }),
   log: Object.freeze({ full: 0, at: 8 }),
   answer: Object.freeze({
     number: 0, moment: 8, heard: 16, fault: 56, degrees: 72, address: 80, feet: 84, kind: 88, altitudeForm: 89,
@@ -153,12 +155,6 @@ function readTally(view, at) {
     refused: view.getBigUint64(at + 8, true),
   };
 }
-function readPresent(view, at) {
-  return {
-    moment: view.getBigUint64(at, true),
-    address: view.getUint32(at + 8, true),
-  };
-}
 function readLast(view, at) {
   return {
     moment: view.getBigUint64(at, true),
@@ -228,7 +224,6 @@ const HINTS = Object.freeze({
   [Code.TABLE_FULL]: "raise the limit",
   [Code.NO_LIMIT]: "a limit is at least 1",
   [Code.NO_TRACKER]: "it is closed",
-  [Code.NO_ADDRESS]: "an index is below the number of aircraft that are present",
   [Code.BAD_ENTRY]: "the state was saved with other settings, or is damaged",
 });
 const WINDOW = 10_000n;
@@ -519,6 +514,62 @@ function listenerOf(owner, library, name, settings) {
     ask(library, `${name}_new${here ? "_at" : ""}`, ...words);
   });
 }
+const PRESENT_AT_FIRST = 256;
+class Present {
+  #library;
+  #view;
+  constructor(library, bytes) {
+    this.#library = library;
+    this.#view = new DataView(bytes.buffer, bytes.byteOffset, bytes.byteLength);
+  }
+  get address() {
+    return this.#view.getUint32(AT.entry.address, true);
+  }
+  get moment() {
+    return this.#view.getBigUint64(AT.entry.moment, true);
+  }
+  get airborne() {
+    return this.#side(AT.entry.airborne);
+  }
+  get surface() {
+    return this.#side(AT.entry.surface);
+  }
+  #side(at) {
+    const { even, odd, fix } = AT.side;
+    return { even: this.#received(at + even), odd: this.#received(at + odd), fix: this.#fix(at + fix) };
+  }
+  #received(at) {
+    const view = this.#view;
+    const frame = new Uint8Array(view.buffer, view.byteOffset + at + AT.received.frame, FRAME_BYTES).slice();
+    return frame[0] ? { moment: view.getBigUint64(at + AT.received.moment, true), frame } : null;
+  }
+  #fix(at) {
+    const [lat, lon] = [AT.position.lat, AT.position.lon]
+      .map((angle) => readAngle(this.#view, at + AT.lastFix.position + angle));
+    if (!lat.den) return null;
+    const position = Object.freeze({ lat: exactAngle(this.#library, lat), lon: exactAngle(this.#library, lon) });
+    return { moment: this.#view.getBigUint64(at + AT.lastFix.moment, true), position };
+  }
+}
+function exactAngle(library, fraction) {
+  const { num, den } = lowest(fraction.num, fraction.den);
+  return new Angle(library, num, den);
+}
+function presentIn(library, listener, since) {
+  const { memory } = library, from = moment(since), call = memory.exports[`squitter_${listener.name}_present`];
+  for (let size = PRESENT_AT_FIRST; ; size *= 4) {
+    const room = memory.claim(ENTRY_BYTES * size);
+    try {
+      const count = Number(call(listener.slot, from, 0n, BigInt(room.at), BigInt(size)));
+      if (count === size) continue;
+      const bytes = memory.bytesAt(room.at, ENTRY_BYTES * count).slice();
+      return Array.from({ length: count }, (_, index) =>
+        new Present(library, bytes.subarray(ENTRY_BYTES * index, ENTRY_BYTES * (index + 1))));
+    } finally {
+      memory.release(room);
+    }
+  }
+}
 const ANSWERS_AT_ONCE = 4096, TEXT_ROOM = 1 << 18, E7 = 10_000_000;
 const LAST_BYTES = BYTES.last, ENTRY_BYTES = BYTES.entry, ANSWER_BYTES = BYTES.answer;
 const { number: NUMBER, moment: MOMENT, address: ADDRESS, feet: FEET, kind: KIND, altitudeForm: FORM } = AT.answer;
@@ -606,6 +657,9 @@ class Log {
     ask(this.#library, "log_tally", this.#listener.slot, BigInt(outAt));
     return readTally(this.#library.memory.view(), outAt);
   }
+  present(since = 0n) {
+    return presentIn(this.#library, this.#listener, since);
+  }
   close() {
     this.#listener.close();
     this.#columnRoom = null;
@@ -687,12 +741,8 @@ class Tracker {
   get size() {
     return Number(this.#library.memory.exports.squitter_tracker_len(this.#listener.slot));
   }
-  present(index) {
-    const { outAt } = this.#library.memory, number = whole(index);
-    const at = BigInt.asUintN(64, number) === number ? number : (1n << 64n) - 1n;
-    ask(this.#library, "tracker_get", this.#listener.slot, at, BigInt(outAt));
-    const { address, moment: newest } = readPresent(this.#library.memory.view(), outAt);
-    return { address, moment: newest };
+  present(since = 0n) {
+    return presentIn(this.#library, this.#listener, since);
   }
   get last() {
     return this.#state(0).last ?? 0n;
@@ -744,7 +794,7 @@ class Contact extends Tracker {
     this.#site = site && library.memory.exactPosition(site);
   }
   get newest() {
-    return this.size ? this.present(0).moment : 0n;
+    return this.present()[0]?.moment ?? 0n;
   }
   copy() {
     const state = this.save();
@@ -985,6 +1035,21 @@ class Squitter {
       throw error;
     }
   }
+  doubts({ site = null, range = 0, speed = 0 }, at, place, before = null) {
+    const { memory } = this, { outAt } = memory, time = moment(at);
+    for (const one of [site, before && before.position, place]) this.#look(one);
+    const watchAt = outAt, siteAt = outAt + 32, beforeAt = outAt + 64, atPlace = outAt + 128;
+    memory.bytesAt(outAt, 160).fill(0);
+    if (site) memory.putPosition(siteAt, site);
+    if (before) memory.putPosition(beforeAt + AT.lastFix.position, before.position);
+    memory.putPosition(atPlace, place);
+    const view = memory.view();
+    view.setUint32(watchAt + AT.watch.range, fitted(range, 32), true);
+    view.setUint32(watchAt + AT.watch.speed, fitted(speed, 32), true);
+    if (before) view.setBigUint64(beforeAt + AT.lastFix.moment, moment(before.moment), true);
+    const words = [watchAt, siteAt, beforeAt].map(BigInt);
+    return memory.exports.squitter_doubts(...words, time, BigInt(atPlace));
+  }
   frame(source) {
     if (typeof source !== "string") return frameBytes(source);
     const length = this.memory.putText(source), { textAt, outAt } = this.memory;
@@ -1127,7 +1192,7 @@ async function load(source) {
   return new Squitter(made instanceof WebAssembly.Instance ? made : made.instance);
 }
 return {
-  AirHead, AltitudeForm, Angle, Code, Contact, Fault, Feed, FeedFormat, Format, GroundHead, Kind, Log, Order,
-  Squitter, Stranger, Tracker, Unit, WINDOW, What, load,
+  AirHead, AltitudeForm, Angle, BEYOND_RANGE, Code, Contact, Fault, Feed, FeedFormat, Format, GroundHead, Kind, Log,
+  Order, Squitter, Stranger, TOO_FAST, Tracker, Unit, WINDOW, What, load,
 };
 }

@@ -27,6 +27,19 @@ export interface Position {
   readonly lon: Degrees;
 }
 
+/** What is known of the places of aircraft. */
+export interface Watch {
+  readonly site?: Position | null;
+  readonly range?: Whole;
+  readonly speed?: Whole;
+}
+
+/** The place is further from the site than the range. */
+export declare const BEYOND_RANGE: number;
+
+/** The aircraft would be faster than the speed. */
+export declare const TOO_FAST: number;
+
 /** A position that a call returns. */
 export interface Place extends Position {
   readonly lat: Angle;
@@ -162,6 +175,9 @@ export declare class Squitter {
   readonly memory: object;
   /** Returns the 14 bytes of a frame, or of a frame text. Faults: WRAP, SHORT, LENGTH, DIGIT. */
   frame(source: Frame): Uint8Array;
+  /** Returns why a place at a timestamp (ms) cannot be true: the sum of BEYOND_RANGE and TOO_FAST, or 0. A range
+   * (nautical miles from the site) or a speed (knots) of 0 is not known. Fault: BAD_POSITION. */
+  doubts(watch: Watch, at: Whole, place: Position, before?: LastFix | null): number;
   /** Returns the frame as 28 upper-case hexadecimal digits. Faults: those of `frame`. */
   frameText(source: Frame): string;
   /** Returns the fields of the squitter in a frame. Faults: those of `frame`, then NOT_DF17, PARITY. */
@@ -259,8 +275,38 @@ export declare class Log {
   header(format?: Format): string;
   /** The numbers of good lines and of refused lines so far. Fault: NO_TRACKER. */
   get tally(): Tally;
+  /** Returns the aircraft that were heard at or after a timestamp, as `Tracker.present` does. */
+  present(since?: Whole): Present[];
   /** Frees the memory. Safe to call twice. */
   close(): void;
+}
+
+/** A frame of 14 bytes and its timestamp (ms). */
+export interface Received {
+  readonly moment: bigint;
+  readonly frame: Uint8Array;
+}
+
+/** The position of a fix and its timestamp (ms). */
+export interface LastFix {
+  readonly moment: bigint;
+  readonly position: Position;
+}
+
+/** What is kept of an aircraft in the air, or on the ground: its newest frames and its last fix, with timestamps in
+ * milliseconds. */
+export interface Side {
+  readonly even: Received | null;
+  readonly odd: Received | null;
+  readonly fix: LastFix | null;
+}
+
+/** An aircraft that is present, and the timestamp of its newest position frame. */
+export interface Present {
+  readonly address: number;
+  readonly moment: bigint;
+  readonly airborne: Side;
+  readonly surface: Side;
 }
 
 /** Positions of many aircraft from their frames, as `squitter track` decodes them. */
@@ -272,9 +318,9 @@ export declare class Tracker {
   hear(at: Whole, source: Frame): Heard;
   /** The number of aircraft that are present; 0 after `close`. */
   get size(): number;
-  /** Returns the aircraft at an index, the longest silent first, and the timestamp of its latest position.
-   * Faults: NO_TRACKER, NO_ADDRESS. */
-  present(index: Whole): { address: number; moment: bigint };
+  /** Returns the aircraft that were heard at or after a timestamp, the last heard first. Without one these are all that
+   * are present; none after `close`. */
+  present(since?: Whole): Present[];
   /** The timestamp of the last accepted frame; 0n if none was accepted. */
   get last(): bigint;
   /** Returns the state. A closed tracker has an empty state. */

@@ -18,13 +18,15 @@
  * in place of a whole number throws a TypeError. */
 
 import {
-  AIR_HEAD_MEMBERS, ANGLE_TEXT_BYTES, AltitudeForm, Code, FAULTS, FAULT_TEXT_BYTES, FRAME_BYTES, FRAME_DIGITS,
+  AIR_HEAD_MEMBERS, ANGLE_TEXT_BYTES, AT, AltitudeForm, Code, FAULTS, FAULT_TEXT_BYTES, FRAME_BYTES, FRAME_DIGITS,
   GROUND_HEAD_MEMBERS, readAltitude, readDegreesE7, writeFault,
 } from "./squitter_layout.js";
 import { Memory, ask, angleAt, positionAt } from "./squitter_memory.js";
 import { AirHead, Fault, GroundHead, fitted, frameBytes, moment, whole } from "./squitter_values.js";
 
-export { Code, Kind, AltitudeForm, What, Format, FeedFormat, Stranger, Unit } from "./squitter_layout.js";
+export {
+  BEYOND_RANGE, TOO_FAST, Code, Kind, AltitudeForm, What, Format, FeedFormat, Stranger, Unit,
+} from "./squitter_layout.js";
 export { WINDOW, Fault, Angle, AirHead, GroundHead } from "./squitter_values.js";
 export { Contact, Log, Tracker } from "./squitter_tracking.js";
 export { Feed } from "./squitter_feed.js";
@@ -86,6 +88,28 @@ export class Squitter {
       if (error instanceof Fault) this.read(first);
       throw error;
     }
+  }
+
+  /** Returns why a place at a timestamp (ms) cannot be true: the sum of BEYOND_RANGE, if it is more than `range`
+   * nautical miles from the `site`, and TOO_FAST, if it is further from the place `before`, {moment, position}, than
+   * `speed` knots take an aircraft, and a mile; 0 if neither is so. A range or a speed of 0 is not known. Two places
+   * are further apart than so many miles if their latitudes differ by more than miles / 60 degrees, or their
+   * longitudes, the shorter way round, by more than miles / NL degrees, where the smaller zone count NL is at least 2.
+   * Fault: BAD_POSITION. */
+  doubts({ site = null, range = 0, speed = 0 }, at, place, before = null) {
+    const { memory } = this, { outAt } = memory, time = moment(at);
+    for (const one of [site, before && before.position, place]) this.#look(one);
+    const watchAt = outAt, siteAt = outAt + 32, beforeAt = outAt + 64, atPlace = outAt + 128;
+    memory.bytesAt(outAt, 160).fill(0);
+    if (site) memory.putPosition(siteAt, site);
+    if (before) memory.putPosition(beforeAt + AT.lastFix.position, before.position);
+    memory.putPosition(atPlace, place);
+    const view = memory.view();
+    view.setUint32(watchAt + AT.watch.range, fitted(range, 32), true);
+    view.setUint32(watchAt + AT.watch.speed, fitted(speed, 32), true);
+    if (before) view.setBigUint64(beforeAt + AT.lastFix.moment, moment(before.moment), true);
+    const words = [watchAt, siteAt, beforeAt].map(BigInt);
+    return memory.exports.squitter_doubts(...words, time, BigInt(atPlace));
   }
 
   /** Returns the 14 bytes of a frame, or of a frame text. Faults: WRAP, SHORT, LENGTH, DIGIT. */

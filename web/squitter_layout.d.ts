@@ -61,8 +61,6 @@ export declare const Code: {
   readonly NO_LIMIT: 45;
   /** There is no tracker, log, feed or order. */
   readonly NO_TRACKER: 46;
-  /** No address is at the index. */
-  readonly NO_ADDRESS: 47;
   /** A log has 2^63 lines, or a piece more than 2^61 bytes. */
   readonly LONG_LOG: 48;
   /** No format has this number, or the bytes show no format. */

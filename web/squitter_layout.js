@@ -5,6 +5,8 @@ export const FRAME_BYTES = 14; // of a frame
 export const FRAME_DIGITS = 28; // of a frame's text, without a zero at its end
 export const ANGLE_TEXT_BYTES = 16; // room for an angle's text and the zeros after it
 export const FAULT_TEXT_BYTES = 64; // room for a fault's text and the zeros after it
+export const BEYOND_RANGE = 1; // it is further from the site than the range
+export const TOO_FAST = 2; // the aircraft would be faster than the speed
 export const HEADER_BYTES = 64; // room for the header of a format and the zeros after it
 export const ANSWER_TEXT_BYTES = 512; // the most that the text of one line takes
 export const FEED_LIVE = 1; // arrivals say when the bytes were received; otherwise they have no effect
@@ -18,7 +20,7 @@ export const Code = Object.freeze({
   OTHER_KIND: 12, SAME_PARITY: 13, NO_SITE: 14, OUT_OF_RANGE: 15, ZONE_COUNTS: 16, BAD_POSITION: 20, BAD_FIELDS: 21,
   BAD_ANGLE: 22, BAD_LATITUDE: 23, BAD_FEET: 24, BAD_PARITY: 25, NOT_A_NUMBER: 30, TOO_MANY_DECIMALS: 31,
   ANGLE_RANGE: 32, LONG_LINE: 40, BAD_MOMENT: 41, MOMENT_BACK: 42, TABLE_FULL: 43, NO_MEMORY: 44, NO_LIMIT: 45,
-  NO_TRACKER: 46, NO_ADDRESS: 47, LONG_LOG: 48, BAD_FORMAT: 49, BAD_ENTRY: 50,
+  NO_TRACKER: 46, LONG_LOG: 48, BAD_FORMAT: 49, BAD_ENTRY: 50,
 });
 
 /** The kind of a squitter, by its type code. */
@@ -50,7 +52,7 @@ export const Unit = Object.freeze({
 /** The size of each struct in bytes. */
 export const BYTES = Object.freeze({
   fault: 16, angle: 16, position: 32, degreesE7: 8, fields: 40, airHead: 12, groundHead: 12, altitude: 8, zones: 16,
-  received: 24, lastFix: 40, side: 88, entry: 192, last: 16, heard: 40, block: 16, tracker: 16, present: 16, log: 16,
+  received: 24, lastFix: 40, side: 88, entry: 192, watch: 8, last: 16, heard: 40, block: 16, tracker: 16, log: 16,
   answer: 96, done: 16, tally: 16, feed: 16, order: 16, counts: 272,
 });
 
@@ -74,11 +76,11 @@ export const AT = Object.freeze({
   lastFix: Object.freeze({ moment: 0, position: 8 }),
   side: Object.freeze({ even: 0, odd: 24, fix: 48 }),
   entry: Object.freeze({ moment: 0, address: 8, airborne: 16, surface: 104 }),
+  watch: Object.freeze({ range: 0, speed: 4 }),
   last: Object.freeze({ moment: 0, heard: 8 }),
   heard: Object.freeze({ position: 0, what: 32, even: 33, odd: 34 }),
   block: Object.freeze({ size: 0, memory: 8 }),
   tracker: Object.freeze({ full: 0, at: 8 }),
-  present: Object.freeze({ moment: 0, address: 8 }),
   log: Object.freeze({ full: 0, at: 8 }),
   answer: Object.freeze({
     number: 0, moment: 8, heard: 16, fault: 56, degrees: 72, address: 80, feet: 84, kind: 88, altitudeForm: 89,
@@ -195,14 +197,6 @@ export function readTally(view, at) {
   };
 }
 
-/** Reads a squitter_present. */
-export function readPresent(view, at) {
-  return {
-    moment: view.getBigUint64(at, true),
-    address: view.getUint32(at + 8, true),
-  };
-}
-
 /** Reads a squitter_last. */
 export function readLast(view, at) {
   return {
@@ -287,6 +281,5 @@ export const HINTS = Object.freeze({
   [Code.TABLE_FULL]: "raise the limit",
   [Code.NO_LIMIT]: "a limit is at least 1",
   [Code.NO_TRACKER]: "it is closed",
-  [Code.NO_ADDRESS]: "an index is below the number of aircraft that are present",
   [Code.BAD_ENTRY]: "the state was saved with other settings, or is damaged",
 });

@@ -1,11 +1,11 @@
 /* squitter_tracking.js: the logs and trackers of squitter.js. */
 
 import {
-  ANSWER_TEXT_BYTES, AT, AltitudeForm, BYTES, Format, HEADER_BYTES, What, readDone, readLast, readPresent, readTally,
-  writeLast,
+  ANSWER_TEXT_BYTES, AT, AltitudeForm, BYTES, FRAME_BYTES, Format, HEADER_BYTES, What, readAngle, readDone, readLast,
+  readTally, writeLast,
 } from "./squitter_layout.js";
 import { Lent, PIECE_BYTES, ask, bytesOf, heardAt } from "./squitter_memory.js";
-import { WINDOW, fitted, moment, refuseSettings, whole } from "./squitter_values.js";
+import { Angle, WINDOW, fitted, lowest, moment, refuseSettings, whole } from "./squitter_values.js";
 
 /** The most addresses of a log or a tracker: 755 megabytes. */
 const MOST_ADDRESSES = 1 << 20;
@@ -28,6 +28,84 @@ function listenerOf(owner, library, name, settings) {
     const words = [slot, block, limit, window, ...(here ? [BigInt(memory.placeAt)] : [])];
     ask(library, `${name}_new${here ? "_at" : ""}`, ...words);
   });
+}
+
+/** Room for so many present aircraft at first. */
+const PRESENT_AT_FIRST = 256;
+
+/** An aircraft that is present. Its parts are made when they are read. */
+class Present {
+  #library;
+  #view;
+
+  constructor(library, bytes) {
+    this.#library = library;
+    this.#view = new DataView(bytes.buffer, bytes.byteOffset, bytes.byteLength);
+  }
+
+  /** The ICAO address. */
+  get address() {
+    return this.#view.getUint32(AT.entry.address, true);
+  }
+
+  /** The timestamp of its newest position frame. */
+  get moment() {
+    return this.#view.getBigUint64(AT.entry.moment, true);
+  }
+
+  /** What is kept of it in the air. */
+  get airborne() {
+    return this.#side(AT.entry.airborne);
+  }
+
+  /** What is kept of it on the ground. */
+  get surface() {
+    return this.#side(AT.entry.surface);
+  }
+
+  #side(at) {
+    const { even, odd, fix } = AT.side;
+    return { even: this.#received(at + even), odd: this.#received(at + odd), fix: this.#fix(at + fix) };
+  }
+
+  /** Returns a frame and its timestamp, or null. All bytes of an absent one are 0. */
+  #received(at) {
+    const view = this.#view;
+    const frame = new Uint8Array(view.buffer, view.byteOffset + at + AT.received.frame, FRAME_BYTES).slice();
+    return frame[0] ? { moment: view.getBigUint64(at + AT.received.moment, true), frame } : null;
+  }
+
+  /** Returns the last fix and its timestamp, or null. The denominators of an absent one are 0. */
+  #fix(at) {
+    const [lat, lon] = [AT.position.lat, AT.position.lon]
+      .map((angle) => readAngle(this.#view, at + AT.lastFix.position + angle));
+    if (!lat.den) return null;
+    const position = Object.freeze({ lat: exactAngle(this.#library, lat), lon: exactAngle(this.#library, lon) });
+    return { moment: this.#view.getBigUint64(at + AT.lastFix.moment, true), position };
+  }
+}
+
+/** Returns the angle of a fraction that may have common factors. */
+function exactAngle(library, fraction) {
+  const { num, den } = lowest(fraction.num, fraction.den);
+  return new Angle(library, num, den);
+}
+
+/** Returns the aircraft of a tracker or a log that were heard since a timestamp, the last heard first. */
+function presentIn(library, listener, since) {
+  const { memory } = library, from = moment(since), call = memory.exports[`squitter_${listener.name}_present`];
+  for (let size = PRESENT_AT_FIRST; ; size *= 4) {
+    const room = memory.claim(ENTRY_BYTES * size);
+    try {
+      const count = Number(call(listener.slot, from, 0n, BigInt(room.at), BigInt(size)));
+      if (count === size) continue;
+      const bytes = memory.bytesAt(room.at, ENTRY_BYTES * count).slice();
+      return Array.from({ length: count }, (_, index) =>
+        new Present(library, bytes.subarray(ENTRY_BYTES * index, ENTRY_BYTES * (index + 1))));
+    } finally {
+      memory.release(room);
+    }
+  }
 }
 
 const ANSWERS_AT_ONCE = 4096, TEXT_ROOM = 1 << 18, E7 = 10_000_000;
@@ -157,6 +235,11 @@ export class Log {
     return readTally(this.#library.memory.view(), outAt);
   }
 
+  /** Returns the aircraft that were heard at or after a timestamp, as `Tracker.present` does. */
+  present(since = 0n) {
+    return presentIn(this.#library, this.#listener, since);
+  }
+
   /** Frees the memory. Safe to call twice. */
   close() {
     this.#listener.close();
@@ -259,15 +342,12 @@ export class Tracker {
     return Number(this.#library.memory.exports.squitter_tracker_len(this.#listener.slot));
   }
 
-  /** Returns the aircraft at an index, the longest silent first, and the timestamp of its latest position.
-   * Faults: NO_TRACKER, NO_ADDRESS. */
-  present(index) {
-    const { outAt } = this.#library.memory, number = whole(index);
-    // No tracker has as many aircraft as the largest index, so that one stands for all that do not fit.
-    const at = BigInt.asUintN(64, number) === number ? number : (1n << 64n) - 1n;
-    ask(this.#library, "tracker_get", this.#listener.slot, at, BigInt(outAt));
-    const { address, moment: newest } = readPresent(this.#library.memory.view(), outAt);
-    return { address, moment: newest };
+  /** Returns the aircraft that were heard at or after a timestamp, the last heard first: `address`, `moment` of the
+   * newest position, and what is kept `airborne` and on the `surface`: the newest `even` and `odd` frame with their
+   * timestamps, and the last `fix`; each null if there is none. Without a timestamp these are all that are present;
+   * none after `close`. */
+  present(since = 0n) {
+    return presentIn(this.#library, this.#listener, since);
   }
 
   /** The timestamp of the last accepted frame; 0n if none was accepted. */
@@ -340,7 +420,7 @@ export class Contact extends Tracker {
 
   /** The timestamp of the newest position; 0n if there is none. */
   get newest() {
-    return this.size ? this.present(0).moment : 0n;
+    return this.present()[0]?.moment ?? 0n;
   }
 
   /** Returns a contact with the same settings and state. */

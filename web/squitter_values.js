@@ -106,7 +106,7 @@ export function moment(value) {
 }
 
 /** Returns a fraction in lowest terms, as BigInts. */
-function lowest(num, den) {
+export function lowest(num, den) {
   let [one, other] = [num < 0n ? -num : num, den];
   while (other) [one, other] = [other, one % other];
   return { num: num / one, den: den / one };

@@ -44,11 +44,12 @@ if TYPE_CHECKING:
     from squitter._heads import AirHead, GroundHead
 
 __all__ = [
-    "AirHead", "Altitude", "AltitudeForm", "Code", "Contact", "Counts", "Fault", "Feed", "FeedFormat", "Fields",
-    "Format", "Frame", "GroundHead", "Heard", "Kind", "Log", "Order", "Position", "Present", "Results", "Stranger",
-    "Tally", "Tracker", "Unit", "WINDOW", "What", "Zones", "angle", "angle_e7", "angle_text", "encode", "fault_text",
-    "feet_of_field", "field_of_feet", "frame", "frame_text", "local", "local_many", "local_zones", "pair",
-    "pair_many", "position_e7", "read", "read_many", "send_again", "unit_of", "version", "zone_count",
+    "AirHead", "Altitude", "AltitudeForm", "Code", "Contact", "Counts", "Doubt", "Fault", "Feed", "FeedFormat",
+    "Fields", "Format", "Frame", "GroundHead", "Heard", "Kind", "LastFix", "Log", "Order", "Position", "Present",
+    "Received", "Results", "Side", "Stranger", "Tally", "Tracker", "Unit", "WINDOW", "Watch", "What", "Zones", "angle",
+    "angle_e7", "angle_text", "encode", "fault_text", "feet_of_field", "field_of_feet", "frame", "frame_text", "local",
+    "local_many", "local_zones", "pair", "pair_many", "position_e7", "read", "read_many", "send_again", "unit_of",
+    "version", "zone_count",
 ]
 
 
@@ -178,13 +179,6 @@ class Heard(NamedTuple):
     position: Optional[Position]
     even: int
     odd: int
-
-
-class Present(NamedTuple):
-    """An address that is present in a tracker, and the timestamp of its newest position."""
-
-    address: int
-    moment: int
 
 
 # ---- from C and to C ----
@@ -664,6 +658,8 @@ __version__ = version()
 
 
 # These modules import the names above.
+from squitter._present import LastFix, Present, Received, Side  # noqa: E402
 from squitter._hearing import Contact, Log, Tally, Tracker  # noqa: E402
+from squitter._watch import Doubt, Watch  # noqa: E402
 from squitter._feed import Counts, Feed  # noqa: E402
 from squitter._order import Order  # noqa: E402

@@ -10,15 +10,16 @@ from typing import (
 )
 
 from squitter import (
-    _HEARD, WINDOW, Code, Fault, Frame, Frames, Heard, Point, Present, _done, _heard_of, _many, _position,
+    _HEARD, WINDOW, Code, Fault, Frame, Frames, Heard, Point, _done, _heard_of, _many, _position,
     _unpacked_heard, frame,
 )
-from squitter._errors import index as whole_index, shown, whole
+from squitter._errors import shown, whole
 from squitter._library import _frames, _lend, _lib, _moment, _quick, _times
 from squitter._made import (
-    ANSWER_TEXT_BYTES, FRAME_BYTES, HEADER_BYTES, FeedFormat, Format, _Done, _Entry, _Heard, _Last, _Log, _Present,
+    ANSWER_TEXT_BYTES, FRAME_BYTES, HEADER_BYTES, FeedFormat, Format, _Done, _Entry, _Heard, _Last, _Log,
     _Tally, _Tracker,
 )
+from squitter._present import Present, _present
 from squitter._results import Results
 
 
@@ -72,6 +73,13 @@ class _Listener(_Lent):
             new = getattr(_lib, f"squitter_{kind}_new_at")(slot, block, limit, window, ctypes.byref(here))
             _done(new, *here.given)
 
+    def present(self, since: int = 0) -> Results[Present]:
+        """Returns the addresses that were heard at or after a timestamp in milliseconds, the last heard first. Without
+        one these are all that are present. Raises ValueError for a timestamp below 0 or from 2**64 on."""
+        with self._lock:
+            self._look_open()
+            return _present(getattr(_lib, f"squitter_{self._kind}_present"), self._at, _moment(since))
+
 
 _tracker_hear = _quick("tracker_hear")
 _TOO_LATE = 1 << 64  # timestamps are below
@@ -101,10 +109,10 @@ class Tracker(_Listener):
     >>> with Tracker() as tracker:
     ...     tracker.hear(0, "8D40621D58C386435CC412692AD6").what.name
     ...     tracker.hear(400, "8D40621D58C382D690C8AC2863A7").position
-    ...     len(tracker), tracker[0]
+    ...     [(f"{it.address:06X}", it.fix.moment, it.fields.feet) for it in tracker.present()]
     'WAITING'
     Position(lat=Fraction(428091, 8192), lon=Fraction(64215, 16384))
-    (1, Present(address=4219421, moment=400))
+    [('40621D', 400, 38000)]
     """
 
     __module__ = "squitter"  # where pickles look for it
@@ -228,18 +236,6 @@ class Tracker(_Listener):
             self._look_open()
             return int(_lib.squitter_tracker_len(ctypes.byref(self._slot)))
 
-    def __getitem__(self, index: int) -> Present:
-        """Returns the present address at an index, the longest silent first. A negative index counts from the newest.
-        The time grows with the index. Raises IndexError for any other index."""
-        with self._lock:
-            self._look_open()
-            place, out = whole_index(index, "an index is a whole number"), _Present()
-            count = int(_lib.squitter_tracker_len(ctypes.byref(self._slot)))
-            if not -count <= place < count:
-                raise IndexError(f"{count} addresses are present, so none has the index {shown(place)}")
-            _done(_lib.squitter_tracker_get(ctypes.byref(self._slot), place % count, ctypes.byref(out)))
-        return Present(out.address, out.moment)
-
 
 class Contact(Tracker):
     """A tracker of one address. A second address raises TABLE_FULL while the first is present."""
@@ -255,7 +251,7 @@ class Contact(Tracker):
     def newest(self) -> int:
         """The timestamp of the newest position; 0 if there is none."""
         with self._lock:
-            return self[0].moment if len(self) else 0
+            return max((it.moment for it in self.present()), default=0)
 
 
 class Tally(NamedTuple):

@@ -29,7 +29,7 @@ class _Position(_made._Position):
 _LIBDIR = ""
 
 
-_SO = "libsquitter.so.0"
+_SO = {"win32": "squitter.dll", "darwin": "libsquitter.dylib"}.get(sys.platform, "libsquitter.so.0")
 
 
 def _found() -> Optional[str]:
@@ -105,8 +105,9 @@ def _length(text: bytes) -> ctypes.c_size_t:
 def _lend(size: int) -> Tuple[_Block, Optional[mmap.mmap]]:
     """Returns a block of this size, and the object that owns its memory. The system commits a page when it is first
     written. If there is no memory, the block has size 0."""
+    private = {} if sys.platform == "win32" else {"flags": mmap.MAP_PRIVATE | mmap.MAP_ANONYMOUS}
     try:
-        memory = mmap.mmap(-1, max(size, 1), flags=mmap.MAP_PRIVATE | mmap.MAP_ANONYMOUS)
+        memory = mmap.mmap(-1, max(size, 1), **private)
     except (OSError, OverflowError):
         return _Block(0, None), None
     return _Block(size, ctypes.addressof(ctypes.c_char.from_buffer(memory))), memory

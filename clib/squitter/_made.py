@@ -14,6 +14,8 @@ FRAME_BYTES = 14  # of a frame
 FRAME_DIGITS = 28  # of a frame's text, without a zero at its end
 ANGLE_TEXT_BYTES = 16  # room for an angle's text and the zeros after it
 FAULT_TEXT_BYTES = 64  # room for a fault's text and the zeros after it
+BEYOND_RANGE = 1  # it is further from the site than the range
+TOO_FAST = 2  # the aircraft would be faster than the speed
 HEADER_BYTES = 64  # room for the header of a format and the zeros after it
 ANSWER_TEXT_BYTES = 512  # the most that the text of one line takes
 FEED_LIVE = 1  # arrivals say when the bytes were received; otherwise they have no effect
@@ -59,7 +61,6 @@ class Code(enum.IntEnum):
     NO_MEMORY = 44  # the block is too small
     NO_LIMIT = 45  # the limit is 0
     NO_TRACKER = 46  # there is no tracker, log, feed or order
-    NO_ADDRESS = 47  # no address is at the index
     LONG_LOG = 48  # a log has 2^63 lines, or a piece more than 2^61 bytes
     BAD_FORMAT = 49  # no format has this number, or the bytes show no format
     BAD_ENTRY = 50  # no tracker with the same settings can hold the entry at index `first`
@@ -226,6 +227,10 @@ class _Entry(ctypes.Structure):
     _fields_ = [("moment", ctypes.c_uint64), ("address", ctypes.c_uint32), ("airborne", _Side), ("surface", _Side)]
 
 
+class _Watch(ctypes.Structure):
+    _fields_ = [("range", ctypes.c_uint32), ("speed", ctypes.c_uint32)]
+
+
 class _Last(ctypes.Structure):
     _fields_ = [("moment", ctypes.c_uint64), ("heard", ctypes.c_uint64)]
 
@@ -240,10 +245,6 @@ class _Block(ctypes.Structure):
 
 class _Tracker(ctypes.Structure):
     _fields_ = [("full", ctypes.c_uint64), ("at", ctypes.c_void_p)]
-
-
-class _Present(ctypes.Structure):
-    _fields_ = [("moment", ctypes.c_uint64), ("address", ctypes.c_uint32)]
 
 
 class _Log(ctypes.Structure):
@@ -307,9 +308,12 @@ CALLS: Dict[str, Tuple[List[Any], Any]] = {
         ctypes.c_size_t, ctypes.c_void_p, ctypes.c_size_t,
     ], ctypes.c_size_t),
     "tracker_len": ([_P(_Tracker)], ctypes.c_size_t),
-    "tracker_get": ([_P(_Tracker), ctypes.c_size_t, _P(_Present)], _Fault),
+    "tracker_present": ([
+        _P(_Tracker), ctypes.c_uint64, ctypes.c_size_t, ctypes.c_void_p, ctypes.c_size_t,
+    ], ctypes.c_size_t),
     "tracker_save": ([_P(_Tracker), _P(_Last), ctypes.c_void_p, ctypes.c_size_t], ctypes.c_size_t),
     "tracker_restore": ([_P(_Tracker), _P(_Last), ctypes.c_void_p, ctypes.c_size_t], _Fault),
+    "doubts": ([_P(_Watch), _P(_Position), _P(_LastFix), ctypes.c_uint64, _P(_Position)], ctypes.c_uint32),
     "log_size": ([ctypes.c_uint32], ctypes.c_size_t),
     "log_new": ([_P(_Log), _Block, ctypes.c_uint32, ctypes.c_uint64], _Fault),
     "log_new_at": ([_P(_Log), _Block, ctypes.c_uint32, ctypes.c_uint64, _P(_Position)], _Fault),
@@ -322,6 +326,7 @@ CALLS: Dict[str, Tuple[List[Any], Any]] = {
     ], _Fault),
     "log_finish_text": ([_P(_Log), ctypes.c_uint32, ctypes.c_void_p, ctypes.c_size_t, _P(_Done)], _Fault),
     "log_tally": ([_P(_Log), _P(_Tally)], _Fault),
+    "log_present": ([_P(_Log), ctypes.c_uint64, ctypes.c_size_t, ctypes.c_void_p, ctypes.c_size_t], ctypes.c_size_t),
     "feed_size": ([], ctypes.c_size_t),
     "feed_new": ([_P(_Feed), _Block, ctypes.c_uint32, ctypes.c_uint64, ctypes.c_uint64, ctypes.c_uint32], _Fault),
     "feed_free": ([_P(_Feed)], None),
@@ -460,7 +465,6 @@ HINTS: Dict[int, str] = {
     Code.TABLE_FULL: "raise the limit",
     Code.NO_LIMIT: "a limit is at least 1",
     Code.NO_TRACKER: "it is closed",
-    Code.NO_ADDRESS: "an index is below the number of aircraft that are present",
     Code.BAD_ENTRY: "the state was saved with other settings, or is damaged",
 }
 

@@ -39,8 +39,16 @@ one of :class:`squitter.What`. The fields of POSITION and DEGREES have the posit
 are 0. So a longitude of 0 is a position only if lon_den is not 0. `even` and `odd` are the zone counts of SPLIT,
 otherwise 0. `feet` is the altitude if `altitude_form`, one of :class:`squitter.AltitudeForm`, is FEET, otherwise 0."""
 
+PRESENT = np.dtype([
+    ("moment", "u8"), ("address", "u4"), ("kind", "u1"), ("altitude_form", "u1"), ("feet", "i4"), ("frame", "u1", 14),
+    ("fix_moment", "u8"), *POSITION.descr, *DEGREES.descr,
+], align=True)
+"""An aircraft that is present: the timestamp (ms) of its newest position `frame`, whose `kind` and altitude these are,
+and its newest fix or followed position with the timestamp `fix_moment`; lat_den is 0 if there was none."""
 
-_NAMES = {FAULT: "FAULT", FIELDS: "FIELDS", POSITION: "POSITION", DEGREES: "DEGREES", TRACKED: "TRACKED"}
+
+_NAMES = {FAULT: "FAULT", FIELDS: "FIELDS", POSITION: "POSITION", DEGREES: "DEGREES", TRACKED: "TRACKED",
+          PRESENT: "PRESENT"}
 
 
 def name_of_type(dtype: np.dtype[Any]) -> str:

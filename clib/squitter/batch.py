@@ -30,7 +30,7 @@ import ctypes
 import operator
 from array import array as _Items
 from mmap import mmap
-from typing import Any, Dict, Iterable, List, NamedTuple, Optional, Sequence, SupportsIndex, Tuple, Type
+from typing import Any, Dict, Iterable, List, NamedTuple, Optional, Sequence, SupportsIndex, Tuple, Type, Union
 
 from squitter._errors import missing, shown
 
@@ -46,14 +46,15 @@ from squitter._answers import ANSWER, COLUMNS, columns, csv_rows, dataframe, fra
 from squitter._library import _FRAME, _binary, _lib, _text
 from squitter._parts import DEGREES_E7, Room, first_words
 from squitter._records import (
-    DEGREES, FAULT, FIELDS, POSITION, TRACKED, Records, _is_missing, _limit, _moments, kind_of, name_of_type,
+    DEGREES, FAULT, FIELDS, POSITION, PRESENT, TRACKED, Records, _is_missing, _limit, _moments, kind_of, name_of_type,
     refuse_mask, whole_numbers, without_mask,
 )
 from squitter._source import feed, refuse_file
 
 __all__ = [
-    "ANSWER", "COLUMNS", "DEGREES", "FAULT", "FIELDS", "POSITION", "TRACKED", "Tracker", "columns", "csv_rows",
-    "dataframe", "feed", "fractions", "lines", "local", "pair", "pair_at", "position_e7", "positions", "read", "track",
+    "ANSWER", "COLUMNS", "DEGREES", "FAULT", "FIELDS", "POSITION", "PRESENT", "TRACKED", "Tracker", "columns",
+    "csv_rows", "dataframe", "feed", "fractions", "lines", "local", "pair", "pair_at", "position_e7", "positions",
+    "present", "read", "track",
 ]
 
 
@@ -478,6 +479,56 @@ class Tracker:
         larger._restore(*self._tracker._save())
         self._tracker.close()
         self._tracker = larger
+
+
+# What is kept of an aircraft in the air or on the ground, and in a tracker: squitter_side and squitter_entry.
+_RECEIVED = np.dtype([("moment", "u8"), ("frame", "u1", 14)], align=True)
+_SIDE = np.dtype([("even", _RECEIVED), ("odd", _RECEIVED), ("fix_moment", "u8"), *POSITION.descr], align=True)
+_ENTRY = np.dtype([("moment", "u8"), ("address", "u4"), ("airborne", _SIDE), ("surface", _SIDE)], align=True)
+
+
+def _newest(choices: Sequence[Records]) -> Records:
+    """Returns for each row the one of these records that is there and has the latest moment, the first of equals."""
+    ranks = np.stack([np.where(one["is_there"], one["moment"] + np.uint64(1), 0) for one in choices])
+    best, rows = ranks.argmax(axis=0), np.arange(len(choices[0]))
+    return np.stack(choices)[best, rows]
+
+
+def present(source: Union[squitter.Tracker, squitter.Log, Tracker], since: int = 0) -> Records:
+    """Returns the aircraft of a tracker or a log that were heard at or after a timestamp in milliseconds (PRESENT), the
+    last heard first. Without one these are all that are present."""
+    told = (source._tracker if isinstance(source, Tracker) else source).present(since)
+    entries = np.frombuffer(told._out, _ENTRY)
+    sides = [entries["airborne"], entries["surface"]]
+    frames, fixes = [], []
+    for side in sides:
+        for frame in (side["even"], side["odd"]):
+            one = np.zeros(len(entries), [("is_there", "?"), ("moment", "u8"), ("frame", "u1", 14)])
+            one["is_there"] = frame["frame"].any(axis=1)
+            one["moment"], one["frame"] = frame["moment"], frame["frame"]
+            frames.append(one)
+        fix = np.zeros(len(entries), [("is_there", "?"), ("moment", "u8"), *POSITION.descr])
+        fix["is_there"], fix["moment"] = side["lat_den"] != 0, side["fix_moment"]
+        for name in POSITION.names or ():
+            fix[name] = side[name]
+        fixes.append(fix)
+    out = np.zeros(len(entries), PRESENT)
+    if not len(out):
+        return out
+    frame, fix = _newest(frames), _newest(fixes)
+    fields, _ = read(np.ascontiguousarray(frame["frame"]))
+    for name in ("moment", "address"):
+        out[name] = entries[name]
+    for name in ("kind", "altitude_form", "feet"):
+        out[name] = fields[name]
+    out["frame"], out["fix_moment"] = frame["frame"], np.where(fix["is_there"], fix["moment"], 0)
+    for angle in ("lat", "lon"):
+        num, den = fix[f"{angle}_num"], fix[f"{angle}_den"].astype("i8")
+        common = np.maximum(np.gcd(num, den), 1)
+        out[f"{angle}_num"], out[f"{angle}_den"] = num // common, den // common
+    degrees, _ = position_e7(out)
+    out["lat_e7"], out["lon_e7"] = degrees["lat_e7"], degrees["lon_e7"]
+    return out
 
 
 def _unpickled(kind: Type[Tracker], most: int, tracker: squitter.Tracker) -> Tracker:

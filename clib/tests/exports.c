@@ -250,14 +250,14 @@ static const squitter_block block = {sizeof memory, memory};
 /* Tests the calls of a tracker; tests/tracker.c tests them in other blocks. */
 static void try_a_tracker(void) {
   squitter_tracker tracker = {0, 0};
-  squitter_present present = {9, 9};
+  squitter_entry present;
+  filled(&present, sizeof present);
   squitter_heard heard;
   filled(&heard, sizeof heard);
   IS(is_fault(squitter_tracker_hear(&tracker, 0, even, &heard), SQUITTER_NO_TRACKER, 0) &&
      is_filled(&heard, sizeof heard));
   IS(squitter_tracker_len(&tracker) == 0);
-  IS(is_fault(squitter_tracker_get(&tracker, 0, &present), SQUITTER_NO_TRACKER, 0) && present.moment == 9 &&
-     present.address == 9);
+  IS(squitter_tracker_present(&tracker, 0, 0, &present, 1) == 0 && is_filled(&present, sizeof present));
   squitter_tracker_free(&tracker);
   IS(squitter_tracker_size(1000) / 1000 == 738); /* as squitter.h says */
   IS(is_fault(squitter_tracker_new(&tracker, block, 0, 10000), SQUITTER_NO_LIMIT, 0));
@@ -272,9 +272,25 @@ static void try_a_tracker(void) {
   IS(is_fault(squitter_tracker_hear(&tracker, 400, ground_older, &heard), SQUITTER_TABLE_FULL, 0));
   IS(is_fault(squitter_tracker_hear(&tracker, 400, no_squitter, &heard), SQUITTER_NOT_DF17, 0));
   IS(heard.what == SQUITTER_FIX && same_place(&heard.position, &place) && squitter_tracker_len(&tracker) == 1);
-  IS(is_ok(squitter_tracker_get(&tracker, 0, &present)) && present.moment == 400 && present.address == 0x40621D);
-  IS(is_fault(squitter_tracker_get(&tracker, 1, &present), SQUITTER_NO_ADDRESS, 0) && present.moment == 400);
+  IS(squitter_tracker_present(&tracker, 401, 0, &present, 1) == 0 && is_filled(&present, sizeof present));
+  IS(squitter_tracker_present(&tracker, 400, 0, &present, 1) == 1 && present.address == 0x40621D);
+  IS(present.moment == 400 && present.airborne.odd.moment == 0 && present.airborne.even.moment == 400);
+  IS(memcmp(present.airborne.odd.frame, odd, sizeof odd) == 0 && present.airborne.fix.moment == 400);
   squitter_tracker_free(&tracker);
+}
+
+/* Tests why places cannot be true, at borders; tests/test_hearing.py has more. */
+static void try_doubts(void) {
+  static const squitter_watch watch = {60, 3600}, unknown = {0, 0};
+  static const squitter_position equator = {{0, 1}, {0, 1}}, north = {{1, 1}, {0, 1}}, further = {{61, 60}, {0, 1}};
+  static const squitter_last_fix before = {1000, {{29, 30}, {0, 1}}}, none = {0, {{0, 0}, {0, 0}}};
+  IS(squitter_doubts(&watch, &equator, &none, 0, &north) == 0);
+  IS(squitter_doubts(&watch, &equator, &none, 0, &further) == SQUITTER_BEYOND_RANGE);
+  IS(squitter_doubts(&watch, &nowhere, &before, 2000, &north) == 0);
+  IS(squitter_doubts(&watch, &nowhere, &before, 1999, &north) == SQUITTER_TOO_FAST);
+  IS(squitter_doubts(&watch, &equator, &before, 1999, &further) == (SQUITTER_BEYOND_RANGE | SQUITTER_TOO_FAST));
+  IS(squitter_doubts(&unknown, &equator, &before, 1999, &further) == 0);
+  IS(squitter_doubts(&watch, &equator, &before, 1999, &nowhere) == 0);
 }
 
 static void try_a_tracker_with_many(void) {
@@ -442,6 +458,7 @@ int main(void) {
   try_places_of_many();
   try_whole_numbers();
   try_a_tracker();
+  try_doubts();
   try_a_tracker_with_many();
   try_a_tracker_near_a_site();
   try_saving();

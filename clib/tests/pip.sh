@@ -29,7 +29,7 @@ fresh=$work/fresh/bin/python
   > "$work/said" 2>&1 || { cat "$work/said"; exit 1; }
 version=$(cat "$clib/../VERSION")
 test "$(cd / && "$fresh" -c 'import squitter; print(squitter.version())')" = "$version"
-# If the library cannot be built there is no package; and a source package is refused.
+# If the library cannot be built there is no package.
 if CC=false "$python" -m pip -q --python "$fresh" install --no-index --force-reinstall "$work/tree" > "$work/said" 2>&1
 then echo "a package without a compiler"; exit 1; fi
 # The wheel: its name and tag, the sums of its files, and the same bytes each time.
@@ -66,12 +66,6 @@ assert f"Tag: {tag}\n" in files[f"{info}/WHEEL"].decode()
 modules = {f"squitter/{path}" for path in os.listdir("squitter") if path.endswith(".py")}
 assert files.keys() == modules | {"squitter/py.typed", "squitter/libsquitter.so.0"} | {
     f"{info}/{path}" for path in ("METADATA", "WHEEL", "RECORD")}, files.keys()
-try:
-    backend.build_sdist(work)
-except backend.UnsupportedOperation:
-    pass
-else:
-    raise SystemExit("a source package")
 PYTHON
 (cd "$work/tree/clib" && "$fresh" "$work/wheel.py" "$work" "$version")
 

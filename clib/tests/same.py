@@ -32,10 +32,10 @@ STRUCTS = {
     "PlainSquitter": "squitter_fields", "PlainAirHead": "squitter_air_head", "PlainGroundHead": "squitter_ground_head",
     "PlainAltitude": "squitter_altitude", "PlainReceived": "squitter_received", "PlainFix": "squitter_last_fix",
     "PlainSide": "squitter_side", "PlainEntry": "squitter_entry", "PlainHeard": "squitter_heard",
-    "DegreesE7": "squitter_degrees_e7", "PlainZones": "squitter_zones", "PlainPresent": "squitter_present",
+    "DegreesE7": "squitter_degrees_e7", "PlainZones": "squitter_zones",
     "Slot": "squitter_tracker", "Room": "squitter_block", "PlainAnswer": "squitter_answer", "Done": "squitter_done",
-    "PlainTally": "squitter_tally", "PlainLast": "squitter_last", "FeedSlot": "squitter_feed",
-    "PlainCounts": "squitter_counts", "OrderSlot": "squitter_order",
+    "PlainTally": "squitter_tally", "PlainLast": "squitter_last", "PlainWatch": "squitter_watch",
+    "PlainCounts": "squitter_counts", "FeedSlot": "squitter_feed", "OrderSlot": "squitter_order",
 }
 # Reasons that have another name in C.
 RENAMED = {

@@ -34,6 +34,7 @@ PROGRAM = os.environ.get("PROGRAM") or subprocess.run(
     [os.path.join(TOP, "dist", "program")], check=True, stdout=subprocess.PIPE, text=True).stdout.strip()
 COUNT = 50_000
 EVEN, ODD = "8D40621D58C382D690C8AC2863A7", "8D40621D58C386435CC412692AD6"
+GROUND_OLDER, GROUND_NEWER = "8C4841753AAB238733C8CD4020B1", "8C4841753A8A35323FAEBDAC702D"
 PLACE = (428091, 8192, 64215, 16384)
 SITE = Position(Fraction(5231, 100), Fraction(476, 100))
 NOWHERE = Position(91, 0)
@@ -132,6 +133,34 @@ class Batch(unittest.TestCase):
                 self.assertEqual((fault, answer), ((int(one.code), one.second, one.first), nothing))
             else:
                 self.assertEqual((fault, answer), ((0, 0, 0), plain(one)))
+
+    def test_present(self) -> None:
+        """Columns of who is present, beside the objects of the module squitter: in the air and on the ground, with one
+        frame and with two, and after both."""
+        tracker, log = squitter.Tracker(site=SITE), squitter.Log(site=SITE)
+        for row in (batch.present(tracker), batch.present(log), batch.present(batch.Tracker(), 5)):
+            self.assertEqual((len(row), row.dtype), (0, batch.PRESENT))
+        frames = [(5, GROUND_OLDER), (9, ODD), (400, GROUND_NEWER), (400, EVEN), (401, squitter.encode(
+            AirHead(0xABCDEF, squitter.field_of_feet(-1000)), Position(-12, -170)))]
+        for moment, frame in frames:
+            tracker.hear(moment, frame)
+        row = batch.present(tracker)
+        self.assertEqual(row[["address", "moment", "feet", "fix_moment"]].tolist(),
+                         [(0xABCDEF, 401, -1000, 0), (0x40621D, 400, 38000, 400), (0x484175, 400, 0, 400)])
+        self.assertEqual(row[list(batch.POSITION.names or ())][1].tolist(), PLACE)
+        self.assertEqual(row[["lat_e7", "lon_e7"]][:2].tolist(), [(0, 0), (522572021, 39193726)])
+        self.assertEqual(row["kind"].tolist(), [Kind.AIR, Kind.AIR, Kind.GROUND])
+        heard = batch.Tracker(site=SITE)
+        heard.hear([moment for moment, _ in frames], b"".join(squitter.frame(frame) for _, frame in frames))
+        self.assertEqual(batch.present(heard, 401).tobytes(), row[:1].tobytes())
+        with open(os.path.join(TOP, "examples", "flights.log"), "rb") as lines:
+            log.take_text(lines.read(100_000))
+        for one, row in zip(log.present(), batch.present(log)):
+            fix = (one.fix.moment, *one.fix.position) if one.fix else (0, 0, 0)
+            self.assertEqual((one.address, one.moment, one.newest.frame, one.fields.kind, one.fields.feet or 0),
+                             (row["address"], row["moment"], bytes(row["frame"]), row["kind"], row["feet"]))
+            angles = (Fraction(int(row[f"{angle}_num"]), int(row[f"{angle}_den"]) or 1) for angle in ("lat", "lon"))
+            self.assertEqual(fix, (row["fix_moment"], *angles))
 
     def test_beside_single_calls(self) -> None:
         rng = random.Random(20261124)

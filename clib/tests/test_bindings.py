@@ -109,7 +109,7 @@ class OfTheHeader(unittest.TestCase):
             "field_of_feet": ([ctypes.c_int32, to(ctypes.c_uint16)], fault),
             "angle_e7": ([to(get("_Angle")), to(ctypes.c_int64)], fault),
             "tracker_new_at": ([to(get("_Tracker")), get("_Block"), word, wide, to(get("_Position"))], fault),
-            "tracker_get": ([to(get("_Tracker")), size, to(get("_Present"))], fault),
+            "tracker_present": ([to(get("_Tracker")), wide, size, address, size], size),
             "tracker_save": ([to(get("_Tracker")), to(get("_Last")), address, size], size),
             "log_take_text": ([to(get("_Log")), word, address, size, address, size, to(get("_Done"))], fault),
             "log_header": ([word, text], None),
@@ -281,6 +281,10 @@ class OfTheWords(unittest.TestCase):
     + "decimals after, such as '-52.25'",
 """, MADE[SCRIPT_FILE])
         self.assertIn('  [Code.NO_TRACKER]: "no tracker, log, feed or order",\n', MADE[SCRIPT_FILE])
+        for line in ('  [SQUITTER_WITHOUT_SITE] = "no site",', '  [SQUITTER_GROUND] = "ground",',
+                     '  [SQUITTER_FEED_JSON] = "the input is lines of JSON, which have no frames",',
+                     f'  [SQUITTER_UNIT_GPS] = "{gps[:-3]}"', '        "MHz, or read its port with --arrival",'):
+            self.assertIn(f"\n{line}\n", MADE["portable/squitter_texts.h"])
         answers = module_of(MADE["feeds/squitter_texts.py"])
         self.assertEqual((answers["COLUMNS"], answers["PLACES"], answers["KINDS"]),
                          (list(names["COLUMNS"]), ("fix", "followed"), ("", "air", "ground")))
@@ -330,7 +334,7 @@ class OfTheCommand(unittest.TestCase):
         folder = tempfile.TemporaryDirectory()
         self.addCleanup(folder.cleanup)
         self.top = folder.name
-        for path in ("clib/squitter", "web", "feeds"):
+        for path in ("clib/squitter", "web", "feeds", "portable"):
             os.makedirs(f"{self.top}/{path}")
         shutil.copy(SCRIPT, f"{self.top}/clib/bindings")
         shutil.copy(os.path.join(CLIB, "texts"), f"{self.top}/clib/texts")

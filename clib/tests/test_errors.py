@@ -274,21 +274,13 @@ class Errors(unittest.TestCase):
                     with kind(given) as one:
                         one.take_text(b"x\n")
 
-    def test_indices(self):
-        tracker = Tracker()
-        tracker.hear(5, ODD)
-        for given in ("0", 0.0, None, slice(0, 1)):
-            self.told(TypeError, f"an index is a whole number, not {given!r}", tracker.__getitem__, given)
-        for given in (1, -2, 1 << 70):
-            self.told(IndexError, f"1 addresses are present, so none has the index {given}", tracker.__getitem__, given)
-        self.assertEqual((tracker[0], tracker[-1]), (tracker[False], tracker[0]))
-
     def test_closed(self):
         for kind, name, calls in (
             (Tracker, "tracker", (len, lambda it: it.hear(5, ODD), lambda it: it.hear_many([], b""),
-                                  lambda it: it.last)),
+                                  lambda it: it.last, lambda it: it.present())),
             (Contact, "tracker", (lambda it: it.newest,)),
-            (Log, "log", (lambda it: it.take_text(b""), lambda it: it.finish_text(), lambda it: it.tally)),
+            (Log, "log", (lambda it: it.take_text(b""), lambda it: it.finish_text(), lambda it: it.tally,
+                          lambda it: it.present())),
             (Feed, "feed", (lambda it: it.take_text(b""), lambda it: it.finish_text(), lambda it: it.counts,
                             lambda it: it.format)),
             (lambda: Order(5), "order", (lambda it: it.take([], b""), lambda it: it.flush(), lambda it: it.held)),

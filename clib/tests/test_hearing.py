@@ -14,6 +14,7 @@ import sys
 import threading
 import unittest
 import weakref
+from fractions import Fraction
 
 CLIB = os.path.join(os.path.dirname(os.path.abspath(__file__)), "..")
 sys.path[:0] = [CLIB, os.path.join(CLIB, "..", "tests")]
@@ -74,13 +75,6 @@ def interrupted(call, again):
     return outer, inner
 
 
-def iter_once(tracker):
-    return next(iter(tracker))
-
-
-def reversed_once(tracker):
-    return next(reversed(tracker))
-
 class Hearing(Refusing):
     """Contacts, trackers and logs."""
 
@@ -136,13 +130,15 @@ class Hearing(Refusing):
             lambda: squitter.Feed(99), lambda: squitter.Order(-1), restored,
         ]
         for call in calls:
-            for count in (3, 100):
+            grown = []
+            for count in (3, 100, 100):
                 before = pages_of_memory()
                 for _ in range(count):
                     with contextlib.suppress(ValueError):
                         call()
-            # (the least block, that of a feed, has a page)
-            self.assertLess(pages_of_memory() - before, 50, call)
+                grown.append(pages_of_memory() - before)
+            # (the least block, that of a feed, has a page; an arena of Python's own has 256, and comes once)
+            self.assertLess(min(grown[1:]), 50, call)
 
     def test_changed_states(self):
         """A saved state has no check sum: most states in which one bit is changed are accepted, as squitter.h says."""
@@ -207,14 +203,92 @@ class Hearing(Refusing):
             self.refused(Code.PARITY, tracker.hear, 1, ODD[:-1] + "7", first=1)
             self.refused(Code.SHORT, tracker.hear, 1, ODD[:14])
             self.assertEqual(len(tracker), 2)
-            self.assertEqual(list(tracker), [(0x40621D, 10_005), (0x484175, 10_006)])
-            self.assertEqual((tracker[1], tracker[-1], tracker[-2]), (*list(tracker)[1:], *list(tracker)[::-1]))
-            for index in (2, -3, 1 << 64):
-                with self.assertRaises(IndexError):
-                    tracker[index]
-            with self.assertRaises(TypeError):
-                tracker["0"]
+            self.assertEqual([it[:2] for it in tracker.present()], [(0x484175, 10_006), (0x40621D, 10_005)])
         tracker.close()
+
+    def test_present(self):
+        """Who is present, the last heard first, with frames and fixes; in a log the same."""
+        frames = [(5, ODD), (6, GROUND_OLDER), (10_005, EVEN), (10_006, GROUND_NEWER)]
+        tracker, log = Tracker(10_000, SITE), Log(10_000, SITE)
+        self.assertEqual((list(tracker.present()), list(log.present())), ([], []))
+        for moment, frame in frames:
+            tracker.hear(moment, frame)
+            log.take_text(f"{moment} {frame}\n".encode())
+        on_ground, in_air = present = tracker.present()
+        self.assertEqual(list(log.present()), list(present))
+        self.assertEqual(in_air, squitter.Present(0x40621D, 10_005, squitter.Side(
+            squitter.Received(10_005, squitter.frame(EVEN)), squitter.Received(5, squitter.frame(ODD)),
+            squitter.LastFix(10_005, PLACE)), squitter.Side(None, None, None)))
+        self.assertEqual((in_air.newest, in_air.fix), ((10_005, squitter.frame(EVEN)), (10_005, PLACE)))
+        self.assertEqual((in_air.fields.kind, in_air.fields.feet), (squitter.Kind.AIR, 38_000))
+        self.assertEqual((on_ground.address, on_ground.moment, on_ground.airborne), (0x484175, 10_006, (None,) * 3))
+        self.assertEqual((on_ground.newest.moment, on_ground.surface.fix), (10_006, (10_006, GROUND_PLACE)))
+        for since, count in ((0, 2), (10_005, 2), (10_006, 1), (10_007, 0), ((1 << 64) - 1, 0)):
+            self.assertEqual((len(tracker.present(since)), len(log.present(since))), (count, count))
+        for since in (-1, 1 << 64):
+            with self.assertRaises(ValueError):
+                tracker.present(since)
+        with self.assertRaises(TypeError):
+            tracker.present("0")
+        waiting = Tracker()
+        waiting.hear(7, ODD)
+        self.assertEqual([(it.fix, it.newest.moment) for it in waiting.present()], [(None, 7)])
+
+    def test_present_at_zero(self):
+        """A frame at timestamp 0 and a fix at 0, 0 are there; of two fixes the newest counts."""
+        even, odd = (squitter.encode(squitter.AirHead(1, odd=odd), (0, 0)) for odd in (0, 1))
+        tracker = Tracker()
+        tracker.hear(0, even)
+        tracker.hear(0, odd)
+        (one,) = tracker.present()
+        self.assertEqual(one.airborne, squitter.Side(squitter.Received(0, even), squitter.Received(0, odd),
+                                                     squitter.LastFix(0, (0, 0))))
+        older, newer = (squitter.Side(None, None, squitter.LastFix(moment, PLACE)) for moment in (5, 9))
+        self.assertEqual([squitter.Present(1, 9, *sides).fix.moment for sides in ((older, newer), (newer, older))],
+                         [9, 9])
+
+    def test_doubts(self):
+        """Why places cannot be true: at, just below and just above each border."""
+        fine = Fraction(1, 10**9)
+        beyond, fast = squitter.Doubt.BEYOND_RANGE, squitter.Doubt.TOO_FAST
+        for miles, site, place, told in (
+            (60, (0, 0), (1, 0), 0), (60, (0, 0), (1 + fine, 0), beyond), (60, (0, 0), (-1 - fine, 0), beyond),
+            (59, (0, 0), (0, 1), 0), (59, (0, 0), (0, 1 + fine), beyond), (2, (87, 0), (87, 1), 0),
+            (2, (87, 0), (87, 1 + fine), beyond), (1, (87 + fine, 0), (87 + fine, 180), 0), (1, (90, 0), (90, 77), 0),
+            (59, (0, Fraction(359, 2)), (0, Fraction(-359, 2)), 0), (58, (0, -180), (0, 179), beyond),
+            (59, (0, -180), (0, 179), 0), (0, (0, 0), (1, 1), 0), ((1 << 32) - 1, (90, 0), (-90, 0), 0),
+        ):
+            watch = squitter.Watch(site, miles)
+            self.assertEqual((watch.doubts(7, place), watch.doubts(7, site)), (told, 0), (miles, site, place))
+        before = squitter.LastFix(1000, Position(0, 0))
+        for knots, moment, lat, told in (
+            (3600, 2000, Fraction(1, 30), 0), (3600, 1999, Fraction(1, 30), fast), (3599, 2000, Fraction(1, 30), fast),
+            (1, 1000, Fraction(1, 60), 0), (1, 1000, Fraction(1, 59), fast), (1, 0, Fraction(1, 60), 0),
+            (1, (1 << 64) - 1, 90, 0), (0, 1000, 90, 0),
+        ):
+            watch = squitter.Watch(speed=knots)
+            self.assertEqual((watch.doubts(moment, (lat, 0), before), watch.doubts(moment, (lat, 0))), (told, 0))
+        self.assertEqual(squitter.Watch((0, 0), 1, 1).doubts(1000, (1, 0), before), beyond | fast)
+        self.refused(Code.BAD_POSITION, squitter.Watch, (91, 0))
+        self.refused(Code.BAD_POSITION, watch.doubts, 0, (0, 181))
+        self.refused(Code.BAD_POSITION, watch.doubts, 0, (0, 0), squitter.LastFix(0, (91, 0)))
+        for given in ({"range": -1}, {"speed": 1 << 32}):
+            with self.assertRaises(ValueError):
+                squitter.Watch(**given)
+        with self.assertRaises(TypeError):
+            squitter.Watch(speed=1.5)
+        with self.assertRaises(ValueError):
+            watch.doubts(-1, (0, 0))
+
+    def test_many_present(self):
+        """More aircraft than one call has room for at first; at, just below and just above that room."""
+        for count in (255, 256, 257, 1024, 1025):
+            tracker = Tracker(limit=2000)
+            frames = b"".join(squitter.encode(squitter.AirHead(number, squitter.field_of_feet(10_000)), PLACE)
+                              for number in range(count))
+            tracker.hear_many(range(count), frames)
+            self.assertEqual([it[:2] for it in tracker.present()], [(n, n) for n in reversed(range(count))])
+            self.assertEqual(len(tracker.present(count - 3)), 3)
 
     def test_closed_tracker(self):
         """Each call of a closed tracker raises NO_TRACKER, whatever its arguments."""
@@ -223,11 +297,10 @@ class Hearing(Refusing):
         for _ in range(2):
             tracker.close()
             for call in (
-                len, list, iter_once, reversed_once, bool, lambda it: it[0], lambda it: it[-1], lambda it: it["0"],
-                lambda it: it[1 << 70], lambda it: it.hear(2, EVEN), lambda it: it.hear(2, "*"),
+                len, bool, lambda it: it.present(), lambda it: it.present(1 << 70), lambda it: it.present("0"),
+                lambda it: it.hear(2, EVEN), lambda it: it.hear(2, "*"),
                 lambda it: it.hear(-1, EVEN), lambda it: it.hear(1.0, None), lambda it: it.hear_many([1, 2], bytes(28)),
                 lambda it: it.hear_many([], b""), lambda it: it.hear_many([1], b"x"), lambda it: it.__enter__(),
-                lambda it: ODD in it,
             ):
                 self.refused(Code.NO_TRACKER, call, tracker)
 
@@ -251,7 +324,7 @@ class Hearing(Refusing):
             if not tracker._lock.acquire(blocking=False):
                 return  # The calls below would wait for ever.
             tracker._lock.release()
-            told.append((len(tracker), tracker[0].address, tracker.hear(5, EVEN).what))
+            told.append((len(tracker), tracker.present()[0].address, tracker.hear(5, EVEN).what))
 
         was = signal.signal(signal.SIGALRM, handler)
         self.addCleanup(signal.signal, signal.SIGALRM, was)
@@ -426,7 +499,7 @@ class Hearing(Refusing):
         tracker = Tracker(10_000, SITE, 7)
         tracker.hear(4, GROUND_OLDER), tracker.hear(5, ODD)
         for other in (copy.copy(tracker), copy.deepcopy(tracker), pickle.loads(pickle.dumps(tracker))):
-            self.assertEqual([*other], [*tracker])
+            self.assertEqual(other.present(), tracker.present())
             self.assertEqual(other.hear(6, EVEN), (What.FIX, PLACE, 0, 0))
             self.assertEqual((tracker.last, other.last), (5, 6))
             self.assertEqual(other.hear(8, GROUND_NEWER).position, GROUND_PLACE)

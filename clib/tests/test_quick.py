@@ -58,7 +58,7 @@ class Quick(unittest.TestCase):
         # A signal handler changed the tracker before the second call, which takes the frame: it is heard once.
         with mock.patch.object(squitter._hearing, "_tracker_hear", lambda *_: int(Code.TABLE_FULL)):
             self.assertEqual(tracker.hear(9, EVEN), (What.FIX, PLACE, 0, 0))
-        self.assertEqual((tracker.last, list(tracker)), (9, [(0x40621D, 9)]))
+        self.assertEqual((tracker.last, [it[:2] for it in tracker.present()]), (9, [(0x40621D, 9)]))
 
     def test_words_of_faults(self):
         """The text of a fault is that of its numbers, also of one that came before, and of numbers that are equal."""

@@ -139,7 +139,8 @@ class Calls(Refusing):
         for moment in (0, 1, (1 << 31) - 1, 1 << 31, 1 << 32, (1 << 53) + 1, 1 << 63, late):
             one, many = Tracker(), Tracker()
             for tracker, heard in ((one, one.hear(moment, ODD)), (many, many.hear_many([moment], frames[:14])[0])):
-                self.assertEqual((heard.what, tracker.last, tracker[0].moment), (What.WAITING, moment, moment))
+                self.assertEqual((heard.what, tracker.last, [it.moment for it in tracker.present()]),
+                                 (What.WAITING, moment, [moment]))
         for moments in ([5, -1], [5, 1 << 64], [-1, 5], [5], [5, 6, 7]):
             with self.assertRaises(ValueError):
                 Tracker().hear_many(moments, frames)

@@ -102,7 +102,7 @@ static void try_again(void) {
   lent one = lend(size), two = lend(size);
   squitter_tracker tracker = {0, 0}, other = {0, 0};
   squitter_heard heard;
-  squitter_present present = {7, 7};
+  squitter_entry present[3];
   uint8_t even[SQUITTER_FRAME_BYTES], odd[SQUITTER_FRAME_BYTES];
   frame_of(1, 0, even), frame_of(1, 1, odd);
   for (int round = 0; round < 3; round++) {
@@ -112,8 +112,8 @@ static void try_again(void) {
     IS(squitter_tracker_hear(&tracker, 1, even, &heard).code == SQUITTER_OK && heard.what == SQUITTER_WAITING);
     IS(squitter_tracker_hear(&other, 2, odd, &heard).code == SQUITTER_OK && heard.what == SQUITTER_WAITING);
     IS(squitter_tracker_hear(&tracker, 3, odd, &heard).code == SQUITTER_OK && heard.what == SQUITTER_FIX);
-    IS(squitter_tracker_get(&tracker, 0, &present).code == SQUITTER_OK && present.moment == 3 && present.address == 1);
-    IS(squitter_tracker_get(&tracker, 1, &present).code == SQUITTER_NO_ADDRESS && present.moment == 3);
+    IS(squitter_tracker_present(&tracker, 0, 0, present, 3) == 1 && present[0].moment == 3 && present[0].address == 1);
+    IS(squitter_tracker_present(&other, 0, 0, present, 3) == 1 && present[0].moment == 2);
     if (round == 1) { /* the tracker is freed before its block is reused */
       squitter_tracker_free(&tracker), squitter_tracker_free(&other);
       memset(one.block.memory, FILLED, size), memset(two.block.memory, 0, size);
@@ -121,9 +121,51 @@ static void try_again(void) {
   }
   squitter_tracker_free(&tracker), squitter_tracker_free(&tracker), squitter_tracker_free(&other);
   IS(squitter_tracker_hear(&tracker, 4, odd, &heard).code == SQUITTER_NO_TRACKER);
-  IS(squitter_tracker_get(&tracker, 0, &present).code == SQUITTER_NO_TRACKER && squitter_tracker_len(&tracker) == 0);
+  IS(squitter_tracker_present(&tracker, 0, 0, present, 3) == 0 && squitter_tracker_len(&tracker) == 0);
   IS(is_guarded(&one) && is_guarded(&two));
   free(one.all), free(two.all);
+}
+
+/* Tests who is present: the last heard first, since a time, from an index on, and as many as fit. */
+static void try_present(void) {
+  enum { COUNT = 9 };
+  lent place = lend(squitter_tracker_size(COUNT));
+  squitter_tracker tracker = {0, 0};
+  squitter_heard heard;
+  squitter_entry whole[COUNT + 1], part[COUNT + 1];
+  uint8_t frame[SQUITTER_FRAME_BYTES];
+  IS(squitter_tracker_new(&tracker, place.block, COUNT, WINDOW).code == SQUITTER_OK);
+  IS(squitter_tracker_present(&tracker, 0, 0, whole, COUNT) == 0);
+  for (uint32_t address = 1; address <= COUNT; address++) { /* two of each moment */
+    frame_of(address, address % 2, frame);
+    IS(squitter_tracker_hear(&tracker, address / 2, frame, &heard).code == SQUITTER_OK);
+  }
+  frame_of(3, 0, frame);
+  IS(squitter_tracker_hear(&tracker, 4, frame, &heard).code == SQUITTER_OK && heard.what == SQUITTER_FIX);
+  static const uint32_t order[COUNT] = {3, 9, 8, 7, 6, 5, 4, 2, 1};
+  IS(squitter_tracker_present(&tracker, 0, 0, whole, COUNT + 1) == COUNT);
+  for (int at = 0; at < COUNT; at++) IS(whole[at].address == order[at]);
+  IS(whole[0].moment == 4 && whole[0].airborne.odd.moment == 1 && whole[0].airborne.even.moment == 4);
+  IS(memcmp(whole[0].airborne.even.frame, frame, sizeof frame) == 0 && whole[0].airborne.fix.moment == 4);
+  IS(whole[1].airborne.even.moment == 0 && whole[1].airborne.fix.position.lat.den == 0);
+  /* Those of 4 and later: at, just below and just above a moment, and beyond all. */
+  for (uint64_t since = 3; since < 6; since++)
+    IS(squitter_tracker_present(&tracker, since, 0, part, COUNT) == (since == 3 ? 5 : since == 4 ? 3 : 0));
+  IS(squitter_tracker_present(&tracker, UINT64_MAX, 0, part, COUNT) == 0);
+  /* From each index on, with each room. */
+  for (size_t from = 0; from <= COUNT + 1; from++)
+    for (size_t room = 0; room <= COUNT; room++) {
+      size_t left = from < COUNT ? COUNT - from : 0, count = left < room ? left : room;
+      memset(part, FILLED, sizeof part);
+      IS(squitter_tracker_present(&tracker, 0, from, part, room) == count);
+      IS(count == 0 || memcmp(part, whole + from, count * sizeof *part) == 0);
+      for (unsigned char *at = (unsigned char *)(part + count); at < (unsigned char *)(part + COUNT + 1); at++)
+        IS(*at == FILLED);
+    }
+  IS(squitter_tracker_present(&tracker, 0, SIZE_MAX, part, COUNT) == 0);
+  IS(squitter_tracker_present(&tracker, 4, 2, part, COUNT) == 1 && part[0].address == 8);
+  IS(squitter_tracker_len(&tracker) == COUNT && is_guarded(&place));
+  free(place.all);
 }
 
 /* Tests that a refused frame leaves its elements unchanged, and that the next frame is accepted. */
@@ -298,6 +340,7 @@ int main(int argc, char **argv) {
   for (size_t i = 0; i < many; i++) try_churn(limits[i], count / (long)many);
   for (size_t i = 0; i < many; i++) try_too_small(limits[i]);
   try_again();
+  try_present();
   try_many();
   try_restoring();
   printf("tracker: %ld addresses, %ld of %ld wrong\n", count, wrong, tried);

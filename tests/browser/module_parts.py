@@ -55,7 +55,7 @@ def in_workers(tries: Tries) -> str:
 
 
 # Only Python has calls of arrays: there, a call costs more than the work it asks for.
-OF_PYTHON_ALONE = {"local_many", "pair_many", "read_many", "Present", "Results"}
+OF_PYTHON_ALONE = {"local_many", "pair_many", "read_many", "Doubt", "Results"}
 
 
 def camel(name: str) -> str:

@@ -16,10 +16,10 @@ const OWNERS = {
   Log: {
     make: (settings) => new Log(library, settings),
     calls: {
-      take: [LINES], finish: [], takeText: [LINES], finishText: [], header: [], tally: null, close: [],
+      take: [LINES], finish: [], takeText: [LINES], finishText: [], header: [], tally: null, present: [0], close: [],
     },
     refused: {
-      take: [[5]], takeText: [[5], [LINES, 99]], finishText: [[99]],
+      take: [[5]], takeText: [[5], [LINES, 99]], finishText: [[99]], present: [[-1]],
     },
     unmade: [{ limit: 0 }, { limit: -1 }, { limit: MOST_ADDRESSES + 1 }, { window: -1 }, { site: NOWHERE },
       { site: {} }, { sight: 1 }],
@@ -30,7 +30,7 @@ const OWNERS = {
       hear: [5, FRAME], size: null, present: [0], last: null, save: [], restore: [good], copy: [], close: [],
     },
     refused: {
-      hear: [[5, "8D"], [-1, FRAME], ["x", FRAME]], present: [[7], ["x"]],
+      hear: [[5, "8D"], [-1, FRAME], ["x", FRAME]], present: [[-1], ["x"]],
       restore: [[bad], [{ last: 5n, entries: new Uint8Array(5) }], [{ last: -1, entries: good.entries }],
         [{ last: 5n, entries: "x" }], [{ last: null, entries: good.entries }]],
     },
@@ -112,7 +112,7 @@ function closedCalls(name, { make, calls }) {
   const others = claimAll();
   for (const [call, given] of Object.entries(calls)) {
     const thrown = changesNothing(`a closed ${name}, ${call},`, () => thrownOf(one, call, given));
-    const isSilent = ["close", "size", "last", "newest", "save", "copy", "header"].includes(call);
+    const isSilent = ["close", "size", "last", "newest", "present", "save", "copy", "header"].includes(call);
     expect(isSilent ? thrown === null : thrown?.code === Code.NO_TRACKER, `a closed ${name}, ${call}, throws`, thrown);
   }
   const next = make();

@@ -2,10 +2,10 @@
  * its text. Prints how many tests passed. */
 import { readFileSync } from "node:fs";
 import {
-  load, AirHead, Code, Contact, Feed, Format, GroundHead, Log, Order, Tracker, What,
+  BEYOND_RANGE, TOO_FAST, load, AirHead, Code, Contact, Feed, Format, GroundHead, Log, Order, Tracker, What,
 } from "../../web/squitter.js";
 import {
-  COLUMN_ROOM, ENTRY_BYTES, FLIGHTS, FRAME, MODULE, MOST_ADDRESSES, PAGE_BYTES, about, codeOf, errorOf, library,
+  COLUMN_ROOM, ENTRY_BYTES, FLIGHTS, FRAME, MODULE, MOST_ADDRESSES, ODD, PAGE_BYTES, about, codeOf, errorOf, library,
   numbersTo, same, thrownBy,
 } from "./checks.mjs";
 
@@ -283,13 +283,65 @@ function otherKinds() {
   }
   same(log.takeText(line, 1n), "1,5,waiting,40621D,air,,,38000\n", "a BigInt");
   tracker.hear(5, FRAME);
-  for (const index of [1, -1, 2n ** 64n - 1n, 2n ** 64n, -(2n ** 64n), 2n ** 70n])
-    same(codeOf(() => tracker.present(index)), Code.NO_ADDRESS, `the index ${index}`);
+  for (const [since, count] of [[undefined, 1], [0, 1], [5, 1], [5n, 1], [6, 0], [2n ** 64n - 1n, 0]])
+    same(tracker.present(since).length, count, `since ${since}`);
+  for (const since of [-1, 2n ** 64n])
+    same(thrownBy(() => tracker.present(since)) instanceof RangeError, true, `since ${since}`);
   for (const site of [0, "", false, NaN]) {
     for (const call of [() => library.pair(FRAME, FRAME, site), () => new Log(library, { site }),
       () => new Tracker(library, { site }), () => new Contact(library, 5, site)])
       same(isTypeError(call), true, `${call} with the site ${JSON.stringify(site)}`);
   }
+}
+
+/** Who is present, the last heard first, with frames and fixes; in a log the same. */
+function presence() {
+  const tracker = new Tracker(library), log = new Log(library);
+  same(JSON.stringify([tracker.present(), log.present()]), "[[],[]]", "nobody");
+  for (const [at, text] of [[5, ODD], [400, FRAME]]) {
+    tracker.hear(at, text);
+    log.take(`${at} ${text}\n`);
+  }
+  for (const [it] of [tracker.present(), log.present()]) {
+    same([it.address, it.moment].join(), "4219421,400", "the address");
+    const { even, odd, fix } = it.airborne;
+    same([even.moment, odd.moment, fix.moment].join(), "400,5,400", "the timestamps");
+    same([even.frame, odd.frame].map((frame) => library.frameText(frame)).join(), `${FRAME},${ODD}`, "the frames");
+    same(`${fix.position.lat.num}/${fix.position.lat.den}`, "428091/8192", "the latitude");
+    same(JSON.stringify(it.surface), '{"even":null,"odd":null,"fix":null}', "nothing on the ground");
+  }
+  // A frame at timestamp 0 and a fix at 0, 0 are there.
+  const zero = new Tracker(library), sent = [0, 1].map((odd) =>
+    library.encode(new AirHead({ address: 1, odd }), { lat: "0", lon: "0" }));
+  sent.forEach((frame) => zero.hear(0, frame));
+  const [{ airborne }] = zero.present();
+  same([airborne.even.moment, airborne.odd.moment, airborne.fix?.moment].join(), "0,0,0", "at zero");
+  // At, just below and just above the room of the first call.
+  for (const count of [255, 256, 257]) {
+    const many = new Tracker(library);
+    for (let address = 0; address < count; address++)
+      many.hear(address, frameOf(address));
+    const present = many.present();
+    same(present.length, count, `${count} aircraft`);
+    same(present.every((it, index) => it.address === count - 1 - index), true, "the last heard first");
+    same(many.present(count - 3).length, 3, "the last three");
+  }
+}
+
+/** Why places cannot be true: at, just below and just above a border. */
+function doubts() {
+  const at = (lat, lon = 0) => ({ lat, lon }), before = { moment: 1000, position: at(0) };
+  const range = (miles, place) => library.doubts({ site: at(0), range: miles }, 7, place);
+  const far = BEYOND_RANGE, fast = TOO_FAST;
+  same([range(60, at(1)), range(60, at(1.000001)), range(0, at(9))], [0, far, 0], "a range in latitude");
+  same([range(59, at(0, 1)), range(59, at(0, -1.000001))], [0, far], "a range in longitude");
+  const speed = (knots, moment) => library.doubts({ speed: knots }, moment, at({ num: 1n, den: 30n }), before);
+  same([speed(3600, 2000), speed(3600, 1999), speed(3599, 2000n), speed(0, 2000)], [0, fast, fast, 0], "a speed");
+  same(library.doubts({ site: at(0), range: 1, speed: 1 }, 1000, at(1), before), far + fast, "both");
+  same(library.doubts({ range: 1, speed: 1 }, 1000, at(1)), 0, "no site and no place before");
+  for (const call of [() => library.doubts({}, 0, at(91)), () => library.doubts({ site: at(91) }, 0, at(0)),
+    () => library.doubts({}, 0, at(0), { moment: 0, position: at(0, 181) })])
+    same(codeOf(call), Code.BAD_POSITION, String(call));
 }
 
 /** The largest limit claims memory; a state that is cut within an entry is refused. */
@@ -306,6 +358,6 @@ function edges() {
 
 const tests = [limits, largeNumbers, afterFinish, columnsBesideText, longAnswers, sitesOfTheirOwn, sitesOfTexts,
   ownBytes, sharedMemory, usualLeap, firstMoment, memoryUsedAgain, memoryExhausted, memoryEnd, roomsExhausted,
-  otherKinds, edges];
+  otherKinds, presence, doubts, edges];
 for (const test of tests) test();
 console.log(`${tests.length} tests of trackers and logs`);

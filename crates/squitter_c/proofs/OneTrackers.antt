@@ -1,6 +1,6 @@
 -- A call has at most one result, unless it is out of memory.
-use Rattle.std.proofs.Common.{◌≡◌, ◌≢◌, ◌∙◌, ℕ, List, [], ◌∷◌, Option, Some, None, Result, Ok, Err, ap, arith, inl, inr}
-use Rattle.std.proofs.Common.{length, map, refl, slice_get, sym, subst}
+use Rattle.std.proofs.Common.{◌≡◌, ◌≢◌, ◌∙◌, ℕ, List, [], ◌∷◌, Some, None, Result, Ok, Err, ap, arith, inl, inr}
+use Rattle.std.proofs.Common.{length, map, refl, sym, subst}
 use Rattle.sq_message.specs.declared.squitter.FrameFault.{FrameFault}
 use Rattle.sq_message.specs.declared.squitter.Squitter.{Squitter}
 use Rattle.sq_message.proofs.One.{one_reading}
@@ -15,14 +15,13 @@ use Rattle.sq_track.specs.declared.contact.Contact.{Contact}
 use Rattle.sq_track.specs.declared.heard.Heard.{Heard}
 use Rattle.sq_track.specs.declared.heard.TrackFault.{TrackFault}
 use Rattle.sq_track.specs.declared.heard.TrackFault.TheVariants.{Memory}
-use Rattle.sq_track.specs.Held.{Held, StandsFor, made_with, present_of, settings}
+use Rattle.sq_track.specs.Held.{Held, StandsFor, made_with, settings}
 use Rattle.sq_track.specs.History.{History}
 use Rattle.sq_track.specs.Replies.{IsReply, Settings, history_after}
 use Rattle.sq_track.proofs.Histories.OneReply.{one_reply}
 use Rattle.sq_track.proofs.Lists.Found.{same_some}
-use Rattle.squitter_c.specs.declared.tracker_get.PlainPresent.{PlainPresent}
-use Rattle.squitter_c.specs.OneTrackers.{OneGot, OneHearing, OneMade, OneMadeAt, no_memory}
-use Rattle.squitter_c.specs.Trackers.{IsMade, IsReadHeard, IsShown, of_tracker, tracker_in}
+use Rattle.squitter_c.specs.OneTrackers.{OneHearing, OneMade, OneMadeAt, no_memory}
+use Rattle.squitter_c.specs.Trackers.{IsMade, IsReadHeard, of_tracker, tracker_in}
 
 -- ---- new trackers
 
@@ -122,15 +121,3 @@ one_hearing moment frame t u v old new other f g (x, x_is, (a, a_is, a_heard)) (
     )
 
 -- ---- present addresses
-
-shown_once : (one : Option (ℕ × ℕ)) (old new other : PlainPresent) (f g : Fault) → IsShown one old new f
-    → IsShown one old other g → (new ≡ other) × (f ≡ g)
-shown_once (Some one) old new other f g h k =
-    let address = h.0 ∙ sym k.0 in
-    let moment = h.1 ∙ sym k.1 in
-    (λ i. record { moment = moment i; address = address i }, h.2 ∙ sym k.2)
-shown_once None old new other f g h k = (h.0 ∙ sym k.0, h.1 ∙ sym k.1)
-
-pub one_got : OneGot
-one_got (Some t) index old new other f g h k = shown_once (slice_get (present_of t.tracker) index) old new other f g h k
-one_got None index old new other f g h k = (h.0 ∙ sym k.0, h.1 ∙ sym k.1)

@@ -1,5 +1,5 @@
 -- Entries that are written in order.
-use Rattle.std.proofs.Common.{◌≡◌, ◌≢◌, ◌≤◌, ◌<◌, ◌+◌, ◌⊎◌, ◌∙◌, ℕ, zero, suc, [], ◌∷◌, List, Some, None, length, get_or, set, refl, sym, ap}
+use Rattle.std.proofs.Common.{◌≡◌, ◌≢◌, ◌≤◌, ◌<◌, ◌+◌, ◌⊎◌, ◌∙◌, ℕ, zero, suc, [], ◌∷◌, List, Some, None, length, drop, get_or, set, refl, sym, ap}
 use Rattle.std.proofs.Common.{slice_get, subst, subst₂, arith, inl, inr, is_some}
 use Rattle.std.proofs.lemmas.Bool.{true≢false}
 use Rattle.std.proofs.lemmas.Option.{slice_get_past}
@@ -67,11 +67,19 @@ module _ (contacts : List (ℕ × Contact)) (was is : List PlainEntry) where
       either : (k : ℕ) → (k < n) ⊎ (n ≤ k)
       either k = grind arith
 
+-- where there is nothing, the list has ended
+pub past_end : {X : Type 0} (xs : List X) (n : ℕ) → slice_get xs n ≡ None → length xs ≤ n
+past_end [] n none = omega arith
+past_end (x ∷ xs) zero none = absurd (true≢false (ap is_some none))
+past_end (x ∷ xs) (suc n) none = omega (arith, past_end xs n none)
+
 -- past the end there is nothing
 pub nothing_past : {X : Type 0} (xs : List X) (n : ℕ) → slice_get xs n ≡ None → (k : ℕ) → n ≤ k → slice_get xs k ≡ None
-nothing_past xs n none k past = slice_get_past xs k (omega (arith, past, ends xs n none))
-  where
-    ends : {X : Type 0} (xs : List X) (n : ℕ) → slice_get xs n ≡ None → length xs ≤ n
-    ends [] n none = omega arith
-    ends (x ∷ xs) zero none = absurd (true≢false (ap is_some none))
-    ends (x ∷ xs) (suc n) none = omega (arith, ends xs n none)
+nothing_past xs n none k past = slice_get_past xs k (omega (arith, past, past_end xs n none))
+
+-- an element of a list from an index on
+pub from_on : {X : Type 0} (n : ℕ) (xs : List X) (k : ℕ) → slice_get (drop n xs) k ≡ slice_get xs (n + k)
+from_on zero xs k = let e : k ≡ 0 + k = omega arith in ap (slice_get xs) e
+from_on (suc n) [] k = refl
+from_on (suc n) (x ∷ xs) k =
+    let e : suc (n + k) ≡ suc n + k = omega arith in from_on n xs k ∙ ap (slice_get (x ∷ xs)) e

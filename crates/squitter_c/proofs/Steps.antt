@@ -1,5 +1,5 @@
 -- Many calls in one: one more call.
-use Rattle.std.proofs.Common.{◌≡◌, ◌<◌, ◌≤◌, ◌+◌, ◌∙◌, ◌≢◌, ℕ, zero, suc, pos, add-one, List, length, get_or, set, refl}
+use Rattle.std.proofs.Common.{◌≡◌, ◌<◌, ◌≤◌, ◌+◌, ◌∙◌, ◌≢◌, ℕ, zero, suc, pos, add-one, List, length, get_or, set}
 use Rattle.std.proofs.Common.{sym, subst, subst₂, arith, inl, inr, ◌⊎◌}
 use Rattle.std.proofs.lemmas.List.{length-set, get_or-set_same, get_or-set_other, get_or_default}
 use Rattle.squitter_c.specs.declared.heard.PlainHeard.{PlainHeard}
@@ -16,10 +16,6 @@ pub there : {A : Type 0} (P : A → Type 0) (xs : List A) (n : ℕ) (x₀ x : A)
 there P xs n x₀ x has h = subst P (get_or_default xs n x₀ x has) h
 
 module _ {B C : Type 0} (was is : List B) (before after : List C) where
-  -- nothing was written yet
-  pub none_below : IsBelow is is after after 0
-  none_below = record { long = (refl, refl); rest = λ k past b c. (refl, refl) }
-
   -- element n was written
   pub one_below : (n : ℕ) → IsBelow was is before after n → (y : B) (z : C)
       → IsBelow was (set is n y) before (set after n z) (n + 1)
@@ -33,13 +29,6 @@ module _ {B C : Type 0} (was is : List B) (before after : List C) where
   }
 
 module _ {B C : Type 0} (At : ℕ → B → B → C → Type 0) (was is : List B) (before after : List C) (n : ℕ) where
-  -- no call has a result yet
-  pub none_answered : AreAnswered At is is after after 0
-  none_answered = record {
-    below = none_below is is after after;
-    answered = λ k below b c. absurd (omega (arith, below));
-  }
-
   -- call n has a result
   pub one_answered : AreAnswered At was is before after n → n < length is → n < length after
       → (b₀ y : B) (z : C) → At n (get_or is n b₀) y z

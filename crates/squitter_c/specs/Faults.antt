@@ -13,7 +13,7 @@ use Rattle.squitter_c.specs.declared.faults.Fault.{Fault}
 use Rattle.squitter_c.specs.declared.faults.Reason.{Reason}
 use Rattle.squitter_c.specs.declared.faults.Reason.TheVariants.{Line, Place, Angle, NoPosition, NoHead, NoAngle}
 use Rattle.squitter_c.specs.declared.faults.Reason.TheVariants.{NoLatitude, NoFeet, NoParity, Memory, NoLimit, NoTracker}
-use Rattle.squitter_c.specs.declared.faults.Reason.TheVariants.{NoAddress, LongLog, NoFormat, Entry}
+use Rattle.squitter_c.specs.declared.faults.Reason.TheVariants.{LongLog, NoFormat, Entry}
 
 -- a code with two numbers
 abbrev pub told : (code first second : ℕ) → Fault
@@ -66,7 +66,6 @@ fault_of NoParity = told 25 0 0
 fault_of Memory = told 44 0 0
 fault_of NoLimit = told 45 0 0
 fault_of NoTracker = told 46 0 0
-fault_of NoAddress = told 47 0 0
 fault_of LongLog = told 48 0 0
 fault_of NoFormat = told 49 0 0
 fault_of (Entry index) = told 50 index 0

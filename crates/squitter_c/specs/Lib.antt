@@ -23,6 +23,8 @@ pub mod OneAnswers
 pub mod Pinned
 pub mod Trackers
 pub mod Restoring
+pub mod Present
+pub mod Watch
 pub mod LogAnswers
 pub mod LogCalls
 pub mod LogLaws

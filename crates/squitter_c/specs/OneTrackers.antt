@@ -17,8 +17,7 @@ use Rattle.sq_track.specs.declared.heard.TrackFault.{TrackFault}
 use Rattle.sq_track.specs.declared.heard.TrackFault.TheVariants.{Memory}
 use Rattle.sq_track.specs.Held.{Held, StandsFor, present_of, settings}
 use Rattle.sq_track.specs.History.{History}
-use Rattle.squitter_c.specs.declared.tracker_get.PlainPresent.{PlainPresent}
-use Rattle.squitter_c.specs.Trackers.{IsGot, IsHeardThere, IsMade, IsMadeAt, IsReplied, IsTrackerHeard, tracker_in}
+use Rattle.squitter_c.specs.Trackers.{IsHeardThere, IsMade, IsMadeAt, IsReplied, IsTrackerHeard, tracker_in}
 
 -- the fault of an allocation that failed
 abbrev pub no_memory : Fault
@@ -49,11 +48,6 @@ abbrev pub OneOfMany : Type 0
 OneOfMany = (moment : ℕ) (frame : List ℕ) (held after : Option Kept) (old new : PlainHeard) (fault : Fault)
     → IsHeardThere (moment ∷ []) (frame ∷ []) 0 held after old new fault
     ↔ IsTrackerHeard moment (frame_of frame) held after old new fault
-
--- an index has at most one entry
-abbrev pub OneGot : Type 0
-OneGot = (held : Option Kept) (index : ℕ) (old new other : PlainPresent) (fault why : Fault)
-    → IsGot held index old new fault → IsGot held index old other why → (new ≡ other) × (fault ≡ why)
 
 -- What `hear` preserves: the settings, and after an error all of the tracker. Memory runs out only at a position of an
 -- address that is not present.

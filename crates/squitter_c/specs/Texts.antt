@@ -11,7 +11,7 @@ use Rattle.sq_track.specs.declared.heard.TrackFault.TheVariants as tracks
 use Rattle.squitter_c.specs.declared.faults.Reason.{Reason}
 use Rattle.squitter_c.specs.declared.faults.Reason.TheVariants.{Line, Place, Angle, NoPosition, NoHead, NoAngle}
 use Rattle.squitter_c.specs.declared.faults.Reason.TheVariants.{NoLatitude, NoFeet, NoParity, Memory, NoLimit, NoTracker}
-use Rattle.squitter_c.specs.declared.faults.Reason.TheVariants.{NoAddress, LongLog, NoFormat, Entry}
+use Rattle.squitter_c.specs.declared.faults.Reason.TheVariants.{LongLog, NoFormat, Entry}
 use Rattle.squitter_c.specs.Faults.{fault_of, with_numbers}
 
 -- the text of a reason: that of the program, if it has one
@@ -28,7 +28,6 @@ reason_text NoParity = codes "bad parity"
 reason_text Memory = track_fault_text tracks.Memory
 reason_text NoLimit = track_fault_text tracks.NoLimit
 reason_text NoTracker = codes "no tracker"
-reason_text NoAddress = codes "no address"
 reason_text LongLog = codes "log too long"
 reason_text NoFormat = codes "bad format"
 reason_text (Entry index) = codes "bad entry " ++ decimal index
@@ -41,7 +40,7 @@ one_of_each =
     ∷ Place places.NotPosition ∷ Place places.OtherAddress ∷ Place places.OtherKind ∷ Place places.SameParity
     ∷ Place places.NoSite ∷ Place places.OutOfRange ∷ Place (places.ZoneCounts 0 0)
     ∷ Angle angles.NotANumber ∷ Angle angles.TooManyDecimals ∷ Angle angles.OutOfRange
-    ∷ NoPosition ∷ NoHead ∷ NoAngle ∷ NoLatitude ∷ NoFeet ∷ NoParity ∷ Memory ∷ NoLimit ∷ NoTracker ∷ NoAddress
+    ∷ NoPosition ∷ NoHead ∷ NoAngle ∷ NoLatitude ∷ NoFeet ∷ NoParity ∷ Memory ∷ NoLimit ∷ NoTracker
     ∷ LongLog ∷ NoFormat ∷ Entry 0 ∷ []
 
 -- the reason with this code, if there is one, whatever its numbers

@@ -1,6 +1,6 @@
 -- Calls of a tracker that C holds.
 use Rattle.std.specs.Prelude.{◌≡◌, ◌≢◌, ◌≤◌, ◌⊎◌, ◌==◌, ⊤, ℕ, List, [], Option, Some, None, Result, Ok, Err, OnErr}
-use Rattle.std.specs.Prelude.{find, option_map, slice_get, slice_index, slice_index_or}
+use Rattle.std.specs.Prelude.{find, option_map, slice_index, slice_index_or}
 use Rattle.sq_angle.specs.declared.position.Position.{Position}
 use Rattle.sq_bits.specs.declared.frame.Frame.{Frame}
 use Rattle.sq_message.specs.declared.squitter.FrameFault.{FrameFault}
@@ -28,7 +28,6 @@ use Rattle.sq_track.specs.ByEntries.{IsHeardByEntries}
 use Rattle.sq_track.specs.Held.{Held, StandsFor, made_with, present_of, settings}
 use Rattle.sq_track.specs.History.{History}
 use Rattle.sq_track.specs.Replies.{IsReply, history_after}
-use Rattle.squitter_c.specs.declared.tracker_get.PlainPresent.{PlainPresent}
 
 -- the tracker of a listener
 abbrev pub tracker_in : Option Kept → Option Held
@@ -105,13 +104,3 @@ IsHeardThere moments frames k old new was is fault = (frame : List ℕ)
 abbrev pub present_in : Option Kept → List (ℕ × ℕ)
 present_in None = []
 present_in (Some k) = present_of k.tracker
-
--- the address and the timestamp at an index, or the fault if there are none
-abbrev pub IsShown : Option (ℕ × ℕ) → (was is : PlainPresent) → Fault → Type 0
-IsShown (Some one) was is fault = (is.address ≡ one.0) × (is.moment ≡ one.1) × (fault ≡ none)
-IsShown None was is fault = (is ≡ was) × (fault ≡ fault_of reasons.NoAddress)
-
--- the same, or the fault if there is no tracker
-abbrev pub IsGot : Option Kept → (index : ℕ) → (was is : PlainPresent) → Fault → Type 0
-IsGot (Some k) index was is fault = IsShown (slice_get (present_of k.tracker) index) was is fault
-IsGot None index was is fault = (is ≡ was) × (fault ≡ fault_of reasons.NoTracker)

@@ -79,7 +79,8 @@ fn received_of(plain: &PlainReceived) -> Option<Received>
     }
 }
 
-fn fix_of(plain: &PlainFix) -> Option<LastFix>
+// Returns the fix that plain numbers represent, if its position is in range.
+pub(crate) fn fix_of(plain: &PlainFix) -> Option<LastFix>
     ensures { IsFixOf plain.now result }
 {
     match position_of(&plain.position) {

@@ -42,8 +42,6 @@ pub enum Reason {
     NoLimit,
     /// There is no tracker, log, feed or order.
     NoTracker,
-    /// No address is at the index.
-    NoAddress,
     /// The log has 2^63 lines, or the piece more than 2^61 bytes.
     LongLog,
     /// No format has this number.
@@ -77,7 +75,6 @@ impl Fault {
             Reason::Memory => plain(44),
             Reason::NoLimit => plain(45),
             Reason::NoTracker => plain(46),
-            Reason::NoAddress => plain(47),
             Reason::LongLog => plain(48),
             Reason::NoFormat => plain(49),
             Reason::Entry(index) => told(50, index, 0),

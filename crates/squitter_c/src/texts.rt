@@ -69,7 +69,6 @@ fn push_told(text: &mut TextBuffer<63>, code: u32, first: u64, second: u32)
         44 => text.push_str(TrackFault::Memory.label()),
         45 => text.push_str(TrackFault::NoLimit.label()),
         46 => text.push_str("no tracker"),
-        47 => text.push_str("no address"),
         48 => text.push_str("log too long"),
         49 => text.push_str("bad format"),
         50 => push_entry(text, first),

@@ -1,6 +1,8 @@
 //! Guards of the definitions: each has one value, some value or an exact condition, so none can be weakened unnoticed.
 //! A function with an empty body does nothing: its contract is the statement.
-ghost use Rattle.squitter_c.specs.OneTrackers.{OneGot, OneHearing, OneMade, OneMadeAt, OneOfMany};
+ghost use Rattle.squitter_c.specs.OneTrackers.{OneHearing, OneMade, OneMadeAt, OneOfMany};
+ghost use Rattle.squitter_c.specs.Present.{PresentExactly};
+ghost use Rattle.squitter_c.specs.Watch.{OneDoubt};
 
 /// A limit and a window give at most one new tracker, with a site and without, unless memory runs out.
 pub fn one_tracker()
@@ -18,7 +20,12 @@ pub fn one_of_many()
     ensures { OneOfMany }
 {}
 
-/// An index has at most one entry.
-pub fn one_present()
-    ensures { OneGot }
+/// Who is present is counted and told in one way.
+pub fn present_exactly()
+    ensures { PresentExactly }
+{}
+
+/// The doubts about a place are determined by the watch, the site, the place before and the place.
+pub fn one_doubt()
+    ensures { OneDoubt }
 {}

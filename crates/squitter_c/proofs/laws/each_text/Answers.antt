@@ -4,7 +4,7 @@ use Rattle.sq_message.specs.declared.place.PlaceFault.TheVariants as places
 use Rattle.sq_text.specs.declared.faults.LineFault.TheVariants as lines
 use Rattle.squitter_c.specs.declared.faults.Reason.TheVariants.{Line, Place, Angle, NoPosition, NoHead, NoAngle}
 use Rattle.squitter_c.specs.declared.faults.Reason.TheVariants.{NoLatitude, NoFeet, NoParity, Memory, NoLimit, NoTracker}
-use Rattle.squitter_c.specs.declared.faults.Reason.TheVariants.{NoAddress, LongLog, NoFormat, Entry}
+use Rattle.squitter_c.specs.declared.faults.Reason.TheVariants.{LongLog, NoFormat, Entry}
 use Rattle.squitter_c.specs.Texts.{EachText, told_text}
 use Rattle.squitter_c.proofs.laws.each_text.Goals as goal
 
@@ -39,7 +39,6 @@ each_text NoParity = refl
 each_text Memory = refl
 each_text NoLimit = refl
 each_text NoTracker = refl
-each_text NoAddress = refl
 each_text LongLog = refl
 each_text NoFormat = refl
 each_text (Entry index) = refl

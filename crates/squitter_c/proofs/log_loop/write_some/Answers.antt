@@ -1,4 +1,4 @@
-use Rattle.std.proofs.Common.{◌-◌, ◌+◌, ◌++◌, ◌∷◌, ◌∙◌, List, [], arith, drop, length, refl, subst, take}
+use Rattle.std.proofs.Common.{◌-◌, ◌++◌, ◌∷◌, ◌∙◌, List, [], arith, drop, length, refl, subst, take}
 use Rattle.sq_commands.specs.declared.answers.HeardSquitter.{HeardSquitter}
 use Rattle.sq_log.specs.declared.log.Answer.{Answer as Told}
 use Rattle.squitter_c.proofs.LogSteps.{all_taken, on_answered, rest_further}
