@@ -45,13 +45,3 @@ residue_of m z r h e =
 -- a natural number is congruent to its remainder by %
 pub congruent_mod : (n m : ℕ) → 0 < m → IsCongruent m (pos n) (pos (n % m))
 congruent_mod n m h = congruent_rem (pos n) m h
-
--- congruent numbers have the same remainder
-pub same_rem : (m : ℕ) (a b : ℤ) → 0 < m → IsCongruent m a b → int_rem_euclid a (pos m) ≡ int_rem_euclid b (pos m)
-same_rem m a b h c =
-    let r = rem_is_pos a m h in
-    let s = rem_is_pos b m h in
-    let left : IsCongruent m a (pos r.0) = rw r.1 at (congruent_rem a m h) in
-    let right : IsCongruent m b (pos s.0) = rw s.1 at (congruent_rem b m h) in
-    r.1 ∙ ap pos (same_below m r.0 s.0 r.2 s.2 (congruent_trans (congruent_sym left) (congruent_trans c right)))
-    ∙ sym s.1

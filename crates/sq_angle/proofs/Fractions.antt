@@ -4,36 +4,6 @@ use Rattle.std.proofs.lemmas.Int.{ints}
 use Rattle.sq_angle.specs.Fraction.{Fraction, ◌≼◌, ◌≺◌, ◌≃◌, whole, opposite, IsWithin}
 use Rattle.sq_angle.specs.Scale.{scale-neg, scale_comm, scale-le, scale-lt, le_of_scale, lt_of_scale, same_of_scale}
 
--- x ≤ y ≤ z
-pub at_most_trans : (x y z : Fraction) → 0 < y.den → x ≼ y → y ≼ z → x ≼ z
-at_most_trans x y z p h k =
-    let first = scale-le z.den (pos y.den *ℤ x.num) (pos x.den *ℤ y.num) h in
-    let second = scale-le x.den (pos z.den *ℤ y.num) (pos y.den *ℤ z.num) k in
-    let turned = scale_comm z.den x.den y.num in
-    let left = scale_comm y.den z.den x.num in
-    let right = scale_comm y.den x.den z.num in
-    le_of_scale y.den (pos z.den *ℤ x.num) (pos x.den *ℤ z.num) p (omega (arith, ints))
-
--- x < y ≤ z
-pub below_trans : (x y z : Fraction) → 0 < z.den → x ≺ y → y ≼ z → x ≺ z
-below_trans x y z p h k =
-    let first = scale-lt z.den (pos y.den *ℤ x.num) (pos x.den *ℤ y.num) p h in
-    let second = scale-le x.den (pos z.den *ℤ y.num) (pos y.den *ℤ z.num) k in
-    let turned = scale_comm z.den x.den y.num in
-    let left = scale_comm y.den z.den x.num in
-    let right = scale_comm y.den x.den z.num in
-    lt_of_scale y.den (pos z.den *ℤ x.num) (pos x.den *ℤ z.num) (omega (arith, ints))
-
--- x ≤ y < z
-pub trans_below : (x y z : Fraction) → 0 < x.den → x ≼ y → y ≺ z → x ≺ z
-trans_below x y z p h k =
-    let first = scale-le z.den (pos y.den *ℤ x.num) (pos x.den *ℤ y.num) h in
-    let second = scale-lt x.den (pos z.den *ℤ y.num) (pos y.den *ℤ z.num) p k in
-    let turned = scale_comm z.den x.den y.num in
-    let left = scale_comm y.den z.den x.num in
-    let right = scale_comm y.den x.den z.num in
-    lt_of_scale y.den (pos z.den *ℤ x.num) (pos x.den *ℤ z.num) (omega (arith, ints))
-
 -- having the same value is symmetric
 pub value_sym : (x y : Fraction) → x ≃ y → y ≃ x
 value_sym x y e = sym e

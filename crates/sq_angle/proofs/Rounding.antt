@@ -101,22 +101,3 @@ nearest_unit n xd d p =
     let one : xd * 1 ≡ xd = omega arith in
     nearest_quotient n xd 1 d ((2 * d * n + xd) / (2 * xd)) (ap (λ e. (2 * d * n + e) / (2 * e)) (sym one)) p
     (omega arith)
-
--- Nearest, as a distance: twice the distance from a steps to x is at least minus one step and below one step.
-pub nearest_distance : (x : Fraction) (w d : ℕ) (a : ℤ) →
-    IsNearest x (step_of w d) a ↔
-    ((neg_ℤ (pos (x.den * w)) ≤ℤ (pos 2 *ℤ (pos d *ℤ x.num -ℤ pos (x.den * w) *ℤ a)))
-    × ((pos 2 *ℤ (pos d *ℤ x.num -ℤ pos (x.den * w) *ℤ a)) <ℤ pos (x.den * w)))
-nearest_distance x w d a =
-    let e = x.den * w in
-    let twice : pos 2 *ℤ (pos d *ℤ x.num -ℤ pos e *ℤ a) ≡ pos (2 * d) *ℤ x.num -ℤ pos (2 * e) *ℤ a =
-    simp scales (omega (arith, ints)) in (
-      λ (n : IsNearest x (step_of w d) a).
-          let r = rounded_from_nearest x w d a n in
-          rw twice (omega (arith, ints, r.from), omega (arith, ints, r.below)),
-      λ (h : (neg_ℤ (pos e) ≤ℤ (pos 2 *ℤ (pos d *ℤ x.num -ℤ pos e *ℤ a)))
-          × ((pos 2 *ℤ (pos d *ℤ x.num -ℤ pos e *ℤ a)) <ℤ pos e)).
-          let low : neg_ℤ (pos e) ≤ℤ (pos (2 * d) *ℤ x.num -ℤ pos (2 * e) *ℤ a) = rw twice at h.0 in
-          let high : (pos (2 * d) *ℤ x.num -ℤ pos (2 * e) *ℤ a) <ℤ pos e = rw twice at h.1 in
-          nearest_from_rounded x w d a (record { from = omega (arith, ints); below = omega (arith, ints) }),
-    )

@@ -1,7 +1,6 @@
 //! Laws of fractions and of the texts of angles, over the definitions in the contracts of the calls.
 //!
 //! A function with an empty body does nothing: its contract is the law. The others make the call that they speak of.
-ghost use Rattle.sq_angle.specs.Angle.{degrees};
 ghost use Rattle.sq_angle.specs.Laws.{OrderedByValue, WithinAsFractions};
 ghost use Rattle.sq_angle.specs.Laws.{ExactlyOnePasses};
 

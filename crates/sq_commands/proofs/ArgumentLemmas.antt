@@ -96,9 +96,3 @@ byte_behind n b i small byte within =
     let bound : 2 ^ (8 * (i + 1)) ≤ 2 ^ 24 = pow-le-pow_right (omega arith) wide in
     let here : n * 256 + b < 2 ^ (8 * (i + 1)) = rw (pow_byte i) less in
     (here, omega arith)
-
--- two words that are no position are no site
-pub no_site : (lat lon : List ℕ) (site : Option Position) → ((position : Position) → ¬ IsPositionWords lat lon position)
-    → IsSiteWords (Some lat) (Some lon) site → ⊥
-no_site lat lon None none is = is
-no_site lat lon (Some position) none is = none position is

@@ -3,7 +3,7 @@ use Rattle.std.proofs.Common.{◌≡◌, ◌%◌, ◌∙◌, ◌++◌, ℕ, Bool
 use Rattle.std.specs.Prelude.{◌||◌, nat_le, if◌then◌else◌}
 use Rattle.sq_feed.specs.Counts.{counted, counted_rows}
 use Rattle.sq_feed.specs.Clock.{turn}
-use Rattle.sq_feed.specs.Dates.{Judged, ended, gone_all, is_calm, is_timed, judged, own, started, timed_all}
+use Rattle.sq_feed.specs.Dates.{Judged, ended, gone_all, is_calm, is_timed, judged, longer_run, own, started, timed_all}
 use Rattle.sq_feed.specs.declared.dates.Dates.{Dates}
 use Rattle.sq_feed.specs.declared.dates.First.{First}
 use Rattle.sq_feed.specs.declared.dates.First.TheVariants.{NoTime, Waits, Believed}
@@ -11,11 +11,11 @@ use Rattle.sq_feed.specs.declared.dates.Run.{Run}
 use Rattle.sq_feed.specs.declared.dates.Run.TheVariants.{Empty, One, Two, Torn}
 use Rattle.sq_feed.specs.declared.message.Message.{Message}
 use Rattle.sq_feed.specs.declared.message.Timed.{Timed}
-use Rattle.sq_feed.specs.Ears.{Hears, clock_judged, ear_after, ear_after_all, ear_arrived, ear_at, ear_by, ear_clocked}
+use Rattle.sq_feed.specs.Ears.{Hears, clock_judged, clock_one, ear_after, ear_after_all, ear_arrived, ear_at, ear_by, ear_clocked}
 use Rattle.sq_feed.specs.Ears.{ear_ended, ear_judged, fate_of, row_judged, told_arrived, told_at, told_by}
 use Rattle.sq_feed.specs.Ears.{told_clocked, told_ended, told_judged, told_of, told_of_all, whole_of, with_clock}
 use Rattle.sq_feed.specs.Ears.{with_row}
-use Rattle.sq_feed.specs.Times.{Timing, by_arrival, clock_time, clocked, due, gone_on, is_ahead_of_arrivals}
+use Rattle.sq_feed.specs.Times.{Timing, by_arrival, clocked, due, gone_on, is_ahead_of_arrivals, is_beyond_zero}
 use Rattle.sq_feed.specs.Times.{is_clockless, told_as}
 use Rattle.sq_feed.specs.declared.counts.Fate.{Fate}
 use Rattle.sq_feed.specs.declared.counts.Fate.TheVariants.{Written}
@@ -151,14 +151,31 @@ ended_still t d is =
 
 -- ---- a frame with a clock
 
-clock_judged_by : (starts : Bool) (t : Timing) (d : Dates) (shown arrival : ℕ) (frame : List ℕ)
-    → (if starts then started d (record { moment = clock_time (frozen t) shown arrival; frame = frame })
-    else judged (frozen t) d arrival (record { moment = clock_time (frozen t) shown arrival; frame = frame }))
-    ≡ (if starts then started d (record { moment = clock_time (still (frozen t)) shown 0; frame = frame })
-    else judged (still (frozen t)) d 0 (record { moment = clock_time (still (frozen t)) shown 0; frame = frame }))
-clock_judged_by true t d shown arrival frame = refl
-clock_judged_by false t d shown arrival frame =
-    judged_still (frozen t) d arrival (record { moment = clock_time (frozen t) shown arrival; frame = frame }) refl
+-- a frame that jumps, whatever its time
+longer_by : (first : First) (run : Run) (ahead breaks : ℕ) (t : Timing) (arrival : ℕ) (one : Timed)
+    → longer_run run (frozen t) (dates_of first run ahead breaks) arrival one
+    ≡ longer_run run (still (frozen t)) (dates_of first run ahead breaks) 0 one
+longer_by NoTime Empty ahead breaks t arrival one = refl
+longer_by NoTime (One a) ahead breaks t arrival one = refl
+longer_by NoTime (Two a b) ahead breaks t arrival one = refl
+longer_by NoTime (Torn a b) ahead breaks t arrival one = refl
+longer_by (Waits first) Empty ahead breaks t arrival one = refl
+longer_by (Waits first) (One a) ahead breaks t arrival one = refl
+longer_by (Waits first) (Two a b) ahead breaks t arrival one = refl
+longer_by (Waits first) (Torn a b) ahead breaks t arrival one = refl
+longer_by Believed Empty ahead breaks t arrival one = refl
+longer_by Believed (One a) ahead breaks t arrival one = refl
+longer_by Believed (Two a b) ahead breaks t arrival one = refl
+longer_by Believed (Torn a b) ahead breaks t arrival one = refl
+
+clock_judged_by : (starts below : Bool) (t : Timing) (d : Dates) (shown arrival : ℕ) (one : Timed)
+    → (if starts then started d one
+    else if below then longer_run d.run (frozen t) d arrival one else judged (frozen t) d arrival one)
+    ≡ (if starts then started d one
+    else if below then longer_run d.run (still (frozen t)) d 0 one else judged (still (frozen t)) d 0 one)
+clock_judged_by true below t d shown arrival one = refl
+clock_judged_by false true t d shown arrival one = longer_by d.first d.run d.ahead d.breaks t arrival one
+clock_judged_by false false t d shown arrival one = judged_still (frozen t) d arrival one refl
 
 -- ---- one item
 
@@ -171,7 +188,8 @@ clock_judged_quiet : (ear : Hears) (shown arrival : ℕ) (frame : List ℕ) → 
 clock_judged_quiet ear shown arrival frame is =
     subst (λ (u : Timing). clock_judged (record ear { times = u }) shown arrival frame
     ≡ clock_judged (quiet (record ear { times = u })) shown 0 frame) (is_frozen ear.times is)
-    (clock_judged_by (not ear.times.clock.is_heard) ear.times ear.dates shown arrival frame)
+    (clock_judged_by (not ear.times.clock.is_heard) (is_beyond_zero ear.times shown) ear.times ear.dates shown
+    arrival (clock_one (record ear { times = frozen ear.times }) shown arrival frame))
 
 told_if : (b : Bool) (x x' y y' : List Timed) → x ≡ x' → y ≡ y' → (if b then x else y) ≡ (if b then x' else y')
 told_if true x x' y y' p q = p

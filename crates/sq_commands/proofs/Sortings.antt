@@ -110,10 +110,6 @@ flushed_front old new given before after flushed wrote =
     subst (WroteFront before after) (sym (lines_of-append given new.held) ∙ ap lines_of flushed.held)
     (wrote_front_more before after (lines_of given) (lines_of new.held) wrote)
 
-pub flushed_fewer : (old new : Sorting) (one : Timed) → HasFlushed old (one ∷ []) new
-    → length new.held < length old.held
-flushed_fewer old new one flushed = omega (arith, ap (λ (l : List Timed). length l) flushed.held)
-
 -- ---- lines in a buffer
 
 module _ {K : Type 0} (k : SinkGhosts K) (a b : K) where

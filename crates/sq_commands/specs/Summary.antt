@@ -81,7 +81,7 @@ back_advice breaks =
 -- what to do if all items are damaged, or if times are doubted
 abbrev pub advice : FeedEnd → List ℕ
 advice end =
-    if are_all_damaged end.counts then codes ": try without --format; the times of a table are seconds"
+    if are_all_damaged end.counts then codes ": try another --format, or none; the times of a table are seconds"
     else clocks_advice end ++ ahead_advice end.is_ahead ++ back_advice end.breaks
 
 -- what the timestamps seem to be, and what they have to be

@@ -70,8 +70,7 @@ impl<F: AnswerFormat> Telling for Checking<'_, F> {
     }
 }
 
-/// Writes the answer to each line of the source that is not empty, as soon as its line feed was read; to the last line
-/// at the end of the input. Keeps one line and allocates nothing.
+/// Writes the answer to each line of the source that is not empty. Keeps one line and allocates nothing.
 ///
 /// Returns the numbers of good and of refused lines at the end of the input. Errors: `Read` if a get failed, after the
 /// answers to all lines that were read whole; `Write` if a put or the finish failed, within these answers; never

@@ -37,7 +37,7 @@ ghost use Rattle.sq_commands.specs.BrokenOff.{BrokenAside, BrokenFeeds};
 ghost use Rattle.sq_commands.specs.Check.{Checks, IsCheckRunIn, IsChecked, IsNoFormat, run_reply};
 ghost use Rattle.sq_commands.specs.declared.feed.FeedOptions.{FeedOptions};
 ghost use Rattle.sq_commands.specs.Feed.{IsFed, IsFeedRunIn, IsNoSource, IsSourceWord};
-ghost use Rattle.sq_commands.specs.Formats.{IsFormatWord, Writers, format_name, format_number, told_by};
+ghost use Rattle.sq_commands.specs.Formats.{IsFormatWord, Writers, format_number, told_by};
 ghost use Rattle.sq_commands.specs.Heard.{heard_telling, track_columns};
 ghost use Rattle.sq_commands.specs.Laws.{OneEncodeFault, OneFeedFault, OnePositionFault, OneSiteFault, OneTrackFault};
 ghost use Rattle.sq_commands.specs.Outputs.{effects, outputs};
@@ -48,7 +48,6 @@ ghost use Rattle.sq_commands.specs.SlowAnswers.{AreTrueAfter, AreTrueAnswers, he
 ghost use Rattle.sq_commands.specs.Summary.{advice, are_all_damaged, counts_text, part, stranger_text, summary_text};
 ghost use Rattle.sq_commands.specs.Summary.{summed, unit_line};
 ghost use Rattle.sq_commands.specs.declared.feed.FeedEnd.{FeedEnd};
-ghost use Rattle.sq_feed.specs.declared.message.Stranger.{Stranger};
 ghost use Rattle.sq_commands.specs.Holding.{AreHeardLinesBy, OneListOfAnswers, SomeHolding};
 ghost use Rattle.sq_commands.specs.Track.{HasTracked, IsLogRun, IsTracked, IsTrackedBy};
 ghost use Rattle.sq_log.specs.declared.log.Answer.{Answer};

@@ -17,7 +17,7 @@ const FORMATS: usize = 25;
 pub(crate) type SummaryText = TextBuffer<2560>;
 
 // What to do if all items are damaged.
-const ADVICE: &str = ": try without --format; the times of a table are seconds";
+const ADVICE: &str = ": try another --format, or none; the times of a table are seconds";
 
 // What to do if many times were set aside.
 const SEVERAL: &str = "; try --arrival: the source seems to have several clocks";

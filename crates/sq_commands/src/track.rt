@@ -107,8 +107,8 @@ fn hear<A: Allocator>(tracker: &mut Tracker<A>, timed: Received) -> Verdict<Hear
     }
 }
 
-/// Hears each line of the source that is not empty, and writes the answer, as soon as its line feed was read; the last
-/// line at the end of the input. Keeps one line. Only the tracker allocates, for a new address.
+/// Hears each line of the source that is not empty, and writes the answer. Keeps one line. Only the tracker allocates,
+/// for a new address.
 ///
 /// Returns the numbers of good and of refused lines at the end of the input. Errors: `Read` if a get failed, after the
 /// answers to all complete lines; `Write` if a put or the finish failed, within the answer to the last heard line;

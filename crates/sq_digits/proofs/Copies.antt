@@ -4,20 +4,6 @@ use Rattle.std.proofs.Common.{subst, arith, append_assoc, length-take-le}
 use Rattle.std.proofs.Math.Seq.{take-append-add}
 use Rattle.std.proofs.lemmas.List.{take_more, take_more_set, take-take}
 
--- one more store, behind those of the first bytes of a source
-pub copied_more : (cells old source : List ℕ) (start at : ℕ) → start + at < length cells → at < length source
-    → take (start + at) cells ≡ take start old ++ take at source
-    → take (start + (at + 1)) (set cells (start + at) (get_or source at 0)) ≡ take start old ++ take (at + 1) source
-copied_more cells old source start at room within before =
-    let e : start + at + 1 ≡ start + (at + 1) = omega arith in
-    let byte : ℕ = get_or source at 0 in
-    subst (λ n. take n (set cells (start + at) byte) ≡ take start old ++ take (at + 1) source) e (
-    take_more_set cells (start + at) byte room
-    ∙ ap (λ t. t ++ byte ∷ []) before
-    ∙ append_assoc (take start old) (take at source) (byte ∷ [])
-    ∙ ap (λ t. take start old ++ t) (sym (take_more source at 0 within))
-    )
-
 -- the bytes stored up to an index within the source
 pub front_of : (new old source : List ℕ) (start count : ℕ) → start ≤ length old → count ≤ length source
     → take (start + length source) new ≡ take start old ++ source

@@ -16,13 +16,6 @@ hex_at [] i hex within = absurd (omega (arith, within))
 hex_at (d ∷ digits) zero (is, hex) within = is
 hex_at (d ∷ digits) (suc i) (is, hex) within = hex_at digits i hex (omega (arith, within))
 
--- the values of sixteen digits from an index on are below 16
-pub all_values : (digits values : List ℕ) (at : ℕ) → AreHex digits → at + 16 ≤ length digits
-    → ((k : ℕ) → k < 16 → digit_value (get_or digits (at + k) 0) < 16 → get_or values k 0 < 16)
-    → (k : ℕ) → k < 16 → get_or values k 0 < 16
-all_values digits values at hex room known k small =
-    known k small (ltb-true _ 16 (hex_at digits (at + k) hex (omega (arith, room, small))))
-
 -- the bytes that the digits encode from byte k on
 abbrev pub AreFrom : List ℕ → ℕ → List ℕ → Type 0
 AreFrom digits k [] = Unit {0}

@@ -17,10 +17,6 @@ use denote.Struct.Tuple.{Tuple, tuple_type}
 abbrev pub pair_val : Val → Val → Val
 pair_val u v = vstruct (vcons u (vcons v vnil))
 
-pub pair_Typed : (σ τ : Ty) (u v : Val) → T (has_ty σ u) × WT u → T (has_ty τ v) × WT v → T (has_tys (tcons σ (tcons τ
-    tnil)) (vcons u (vcons v vnil))) × WT (pair_val u v)
-pair_Typed σ τ u v s t = as_fields (σ ∷ τ ∷ []) (u ∷ v ∷ []) (s, (t, tt))
-
 pub pair_of : {M : Type 1} {𝓤 : Ura M} (𝓛 : Logic 𝓤) (R S : RattleType) (x : R.Denot) (y : S.Denot) (u v : Val)
     → ent 𝓤 (sep 𝓤 (sem 𝓛 (R.own_val x (u ∷ []))) (sem 𝓛 (S.own_val y (v ∷ [])))) (sem 𝓛 ((Tuple (R ∷ S ∷ [])).own_val
     (x, y) (pair_val u v ∷ [])))

@@ -3,7 +3,6 @@ ghost use Rattle.std.specs.Prelude.{◌≡◌, ◌+◌, ◌≤◌, ◌++◌, cod
 ghost use Rattle.std.specs.Str.{IsAscii};
 ghost use Rattle.sq_digits.specs.Buffer.{text_len};
 ghost use Rattle.sq_cpr.specs.Code.{numbers_of};
-ghost use Rattle.sq_digits.specs.Digits.{hexadecimal};
 ghost use Rattle.sq_text.specs.Show.{parity_name};
 ghost use Rattle.sq_text.specs.Summary.{code_words, me_words, summary};
 

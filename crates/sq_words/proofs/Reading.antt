@@ -101,8 +101,3 @@ refused_by app words e alike fails other_kind none =
 -- `get_str` returns the value in clap's table
 pub value_is : (f : Found) (id : Text) (o : Option Text) → o ≡ first_value f id → first_of id (rows_of f) ≡ o
 value_is f id o is = sym (first_value-rows f id) ∙ sym is
-
--- a value cannot be both absent and present
-pub no_value : {X : Type 0} (f : Found) (id value : Text) → None ≡ first_value f id
-    → first_of id (rows_of f) ≡ Some value → X
-no_value f id value none some = let there : first_value f id ≡ Some value = first_value-rows f id ∙ some in cc

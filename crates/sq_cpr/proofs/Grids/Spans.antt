@@ -14,12 +14,6 @@ pub span_limits : (span : Span) → FitsCircle span
     → (1 ≤ span.degrees) × (span.degrees ≤ 360) × (1 ≤ span.repeats) × (span.repeats ≤ 360)
 span_limits span e = span_bounds span.degrees span.repeats e
 
--- the longitude steps of a circle fit 32 bits
-pub circle_small : (w r z : ℕ) → w * r ≡ 360 → z ≤ 59 → circle z r ≤ 2783969280
-circle_small w r z e p =
-    let b = mul-le-mul p (span_bounds w r e).3 in
-    omega arith
-
 pub circle_positive : (w r z : ℕ) → w * r ≡ 360 → 1 ≤ z → 1 ≤ circle z r
 circle_positive w r z e p =
     let b = mul-le-mul p (span_bounds w r e).2 in
