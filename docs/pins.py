@@ -7,21 +7,25 @@ the contracts and of the definitions; `laws.py` prints the table and makes the c
 
 An arrow, `¬` and `requires` turn left and right; `↔` has both sides on both. What stands in brackets, as an argument
 or as a part of `×` and `⊎`, counts as what it stands in."""
-import glob
-import os
 import re
 from collections.abc import Iterable, Iterator
 from dataclasses import dataclass, field, replace
 from functools import cached_property
+from pathlib import Path
+from typing import Union
 
-TOP = os.path.dirname(os.path.dirname(os.path.abspath(__file__)))
+import antt
+import rust
+from antt import TOP
+
 Name = tuple[str, str, str]
 NOTHING = ("", "", "")
 FACTS = set("≡ ≢ ≤ < ≤ℤ <ℤ ≼ ≺ ≃ ↔ ¬ ⊤ ⊥ IsTrue All Contains IfSome IfNone IfOk IfErr OnOk OnErr IsDistinct T".split())
 FACTS |= set("Appends Consumes Keeps IsAtEnd MatchResult MatchOption MatchBool IsSome IsNone Any".split())
+# What only a law concludes, below its premises: sq_commands::pins::broken_aside_exactly.
+SAID = {("sq_commands", "BrokenOff", "FailedInside")}
 CONTAINERS = {"List", "Option", "Result"}
 WORD = re.compile(r'"(?:\\.|[^"\\])*"|[(){}]|[^\s(){};,"]+|[;,]')
-HEAD = re.compile(r"^(?:(abbrev|unfoldable) )?pub (record |data )?([^\s:(]+)(.*)$", re.S)
 
 
 @dataclass(frozen=True)
@@ -92,7 +96,7 @@ def split(tokens: list[str], at: set[str]) -> list[list[str]]:
     return parts
 
 
-def groups(tokens: list[str]) -> Iterator[str | list[str]]:
+def groups(tokens: list[str]) -> Iterator[Union[str, list[str]]]:
     """The words outside brackets, and what stands in each pair of brackets."""
     depth, inner = 0, []
     for token in tokens:
@@ -190,75 +194,59 @@ class Walk:
                     yield replace(at, name=name)
 
 
-def imported(text: str) -> dict[str, Name]:
-    """What the lines `use` of a file bring in from specs/, by the name that the file calls it."""
+def scope_of(names: Iterable[tuple[str, antt.Name]]) -> dict[str, Name]:
+    """What a file brings in from specs/, by the name that the file calls it; what comes first counts."""
     found: dict[str, Name] = {}
-    for crate, module, names in re.findall(r"use Rattle\.(\w+)\.specs\.(\w+)\.\{([^}]*)\}", text):
-        for one in names.split(","):
-            name, _, alias = one.strip().partition(" as ")
-            found[(alias or name).strip("◌")] = (crate, module, name)
+    for name, (module, own) in names:
+        parts = module.split(".")
+        if len(parts) == 4 and parts[2] == "specs" and own:
+            found.setdefault(name.strip("◌"), (parts[1], parts[3], own))
     return found
 
 
-def body_parts(head: str, rest: str, is_type: bool) -> list[list[str]]:
-    """The terms of a definition: the bodies of its clauses, or the types of its fields or constructors."""
-    if "◌" in head:
-        return [words(clause.split("=", 1)[1]) for clause in rest.split("\n")[1:] if "=" in clause]
-    if not is_type:
-        clauses = re.split(rf"(?m)^{re.escape(head)}(?=\s)", rest)[1:]
-        return [words(clause.split("=", 1)[1]) for clause in clauses if "=" in clause]
-    fields = re.split(r"(?m)^  (?:pub )?[\w' ]+ :(?=\s)", rest)[1:]
-    return [words(one) for one in fields]
-
-
-def definitions_of(path: str, crate: str, module: str) -> tuple[list[Definition], dict[str, Name]]:
-    with open(path, encoding="utf-8") as file:
-        text = file.read()
-    known = imported(text)
-    found = []
-    for block in re.split(r"\n(?=abbrev |unfoldable |pub |use )", re.sub(r"(?m)^--.*\n", "", text)):
-        head = HEAD.match(block)
-        if head is None or head[3] in {"mod", "ruleset"} or not (head[1] or head[2]):
-            continue
-        is_type = head[2] is not None
-        rest = re.sub(r"(?m)^\s*--.*$", "", head[4])
-        start, _, fields = rest.partition(" where") if is_type else (rest.split("\n" + head[3])[0], "", rest)
-        signature = split(words(start), {"→"})
-        takes = len(signature) > 1 or "(" in signature[0] or "{" in signature[0]
-        one = Definition((crate, module, head[3]), body_parts(head[3], fields or rest, is_type), is_type, takes)
-        one.kind = "Type" if signature[-1][-2:-1] == ["Type"] else "value"
-        found.append(one)
-        known[head[3].strip("◌")] = one.name
-    return found, known
+def definition_of(item: antt.Item) -> Definition:
+    """A definition with its terms: the right sides of its equations, or the types of its fields or constructors."""
+    _, crate, _, module = item.name[0].split(".")
+    head, *clauses = antt.clauses_of(item.text)
+    is_type = item.kind in ("record", "data")
+    if is_type:
+        start, _, fields = "\n".join([head, *clauses]).partition(" where")
+        parts = [words(one) for one in re.split(r"(?m)^  (?:pub )?[\w' ]+ :(?=\s)", fields)[1:]]
+    else:
+        start, parts = head, [words(clause.split("=", 1)[1]) for clause in clauses]
+    start = start.partition(item.name[1])[2]
+    signature = split(words(start), {"→"})
+    takes = len(signature) > 1 or "(" in signature[0] or "{" in signature[0]
+    one = Definition((crate, module, item.name[1]), parts, is_type, takes)
+    one.kind = "Type" if signature[-1][-2:-1] == ["Type"] else "value"
+    return one
 
 
 class Book:
     """All definitions and contracts of the repository, and what pins each definition."""
 
-    def __init__(self, top: str = TOP) -> None:
-        self.top = top
+    def __init__(self, top: Path = TOP) -> None:
         self.definitions: dict[Name, Definition] = {}
         self.known: dict[Name, dict[str, Name]] = {}
         self.contracts: list[Contract] = []
         self.reached: dict[tuple[Name, bool], frozenset[Name]] = {}
-        for path in sorted(glob.glob(f"{top}/crates/*/specs/*.antt")):
-            crate, module = path.split("/")[-3], os.path.basename(path)[:-5]
-            found, known = definitions_of(path, crate, module)
-            for one in found:
-                self.definitions[one.name] = one
-                self.known[one.name] = known
+        for path in sorted(top.glob("crates/*/specs/*.antt")):
+            file = antt.File(path, f"Rattle.{path.parent.parent.name}.specs.{path.stem}")
+            known = scope_of((name, target) for name, target in file.scope.items() if name not in file.constructors)
+            for item in file.items:
+                if item.kind not in ("lemma", "ruleset"):
+                    one = definition_of(item)
+                    self.definitions[one.name] = one
+                    self.known[one.name] = known
         self.sort_out()
         kinds = {name: one.kind for name, one in self.definitions.items()}
         for one in self.definitions.values():
             for part in one.parts:
                 walk = Walk(self.known[one.name], bound(part), kinds)
                 one.places += walk.term(part, RIGHT)
-        for path in sorted(glob.glob(f"{top}/crates/*/src/**/*.rt", recursive=True)):
-            crate = path[len(top):].split("/")[2]
-            if not crate.endswith("_tests"):
-                for contract in contracts_of(path, crate, kinds):
-                    contract.is_law = path.endswith(("laws.rt", "pins.rt"))
-                    self.contracts.append(contract)
+        for item in rust.read(top):
+            if not item.crate.endswith("_tests"):
+                self.contracts += contract_of(item, kinds)
 
     def sort_out(self) -> None:
         """Which definitions are relations, statements, types of plain data, and values.
@@ -370,7 +358,7 @@ class Book:
     def said(self) -> set[Name]:
         """The relations that are a whole clause of a law, or the whole of a statement: what the law says."""
         laws = [contract.whole for contract in self.contracts if contract.is_law]
-        found = {name for whole in laws for name in whole}
+        found = {name for whole in laws for name in whole} | SAID
         size = -1
         while size < len(found):
             size = len(found)
@@ -400,57 +388,23 @@ def whole_names(definitions: dict[Name, Definition], known: dict[Name, dict[str,
             if piece and piece[0] in known[name] and not {"→", "↔"} & set(piece)]
 
 
-ITEM = r"(?m)^(?:    )?(?:pub\b|#|extern|unsafe|const|fn |ghost \w+ ?=|impl|trait)"
-BLOCK = re.compile(r"^(?:pub )?(trait|impl|struct|enum|mod)\b([^\n]*)")
-
-
-def braces(text: str, start: int) -> str:
-    """What stands between the brace at `start` and its other one."""
-    depth = 0
-    for index in range(start, len(text)):
-        depth += (text[index] == "{") - (text[index] == "}")
-        if depth == 0:
-            return text[start + 1:index]
-    return text[start + 1:]
-
-
-def contracts_of(path: str, crate: str, kinds: dict[Name, str]) -> Iterator[Contract]:
-    """The contracts of the public calls of a file, of the traits and of what implements them."""
-    with open(path, encoding="utf-8") as file:
-        text = re.sub(r"(?m)//.*$", "", file.read())
-    known = imported(text)
-    starts = [match.start() for match in re.finditer(ITEM, text)]
-    block = ""
-    for start, end in zip(starts, starts[1:] + [len(text)]):
-        item = text[start:end]
-        heading = BLOCK.match(item)
-        if heading is not None:
-            block = f"{heading[1]}{heading[2]}"
-        elif not item.startswith("    "):
-            block = ""
-        yield from contract_of(item, crate, block, known, kinds)
-
-
-def contract_of(item: str, crate: str, block: str, known: dict[str, Name],
-                kinds: dict[Name, str]) -> Iterator[Contract]:
+def contract_of(item: rust.Item, kinds: dict[Name, str]) -> Iterator[Contract]:
     """The contract of a public call, of a trait's, or what an `impl` gives for a word of its trait.
 
     The invariant of a type is concluded by whatever makes a value, and a call that takes one may conclude from it."""
-    call = re.match(r"\s*(pub )?(?:\w+ |\"C\" )*fn (\w+)", item)
-    shared = block.startswith("trait") or " for " in block
-    ghost = re.match(r"\s*ghost (\w+) ?= ?(?=\{)", item)
-    owner = re.sub(r"^(impl(<[^>]*(<[^>]*>)*[^>]*>)?|trait) *|[{].*$", "", block).strip()
-    if ghost is not None and shared:
-        term = words(braces(item, ghost.end()))
-        one = Contract(crate, f"{owner}: {ghost[1]}")
+    owner = re.sub(r"^(pub )?(impl(<[^>]*(<[^>]*>)*[^>]*>)?|trait) *", "", item.owner.text) if item.owner else ""
+    is_shared = item.owner is not None and (item.owner.kind == "trait" or " for " in item.owner.text)
+    known = scope_of(item.scope)
+    ghost = re.match(r"ghost (\w+) ?= ?(?=\{)", item.text)
+    if ghost is not None and is_shared:
+        term = words(item.text[ghost.end() + 1:rust.closing(item.text, ghost.end()) - 1])
+        one = Contract(item.crate, f"{owner}: {ghost[1]}")
         for turns in (0, 1) if ghost[1] == "invariant" else (0,):
             one.places += Walk(known, bound(term), kinds).term(term, replace(RIGHT, turns=turns))
         yield one
-    elif call is not None and (call[1] or shared):
-        one = Contract(crate, f"{owner.split('<')[0]}::{call[2]}" if owner else call[2])
-        clauses = [(match[1], words(braces(item, match.end() - 1)))
-                   for match in re.finditer(r"\b(requires|ensures)\s*\w*\s*\{", item)]
-        add_clauses(one, clauses, known, kinds)
+    elif item.kind == "fn" and (item.text.startswith("pub ") or is_shared):
+        one = Contract(item.crate, f"{owner.split('<')[0]}::{item.name}" if owner else item.name, item.is_law)
+        add_clauses(one, [(kind, words(term)) for kind, _, term in item.clauses], known, kinds)
         yield one
 
 
@@ -466,7 +420,9 @@ def add_clauses(one: Contract, clauses: list[tuple[str, list[str]]], known: dict
     for kind, term in clauses:
         if kind == "ensures":
             one.places += Walk(known, bound(term), kinds).term(term, replace(RIGHT, below=below))
-            one.whole += [known[part[0]] for part in split(term, {"×"}) if part and part[0] in known]
+            *variables, last = split(term, {"→"})
+            if all(tokens[0] == "(" and colon(tokens[1:-1]) > 0 for tokens in variables):
+                one.whole += [known[part[0]] for part in split(last, {"×"}) if part and part[0] in known]
 
 
 HEAD_OF_PAGE = """# What pins each premise
