@@ -9,11 +9,11 @@ _squitter_geojson() {
         before=${COMP_WORDS[COMP_CWORD-2]}
     fi
     case $before in
-        --silence) compopt +o default 2>/dev/null; return ;;
+        --silence|--lat|--lon|--range|--speed) compopt +o default 2>/dev/null; return ;;
     esac
     # what is no option is a file, which bash completes where this answers nothing
     case $word in
-        -*) COMPREPLY=($(compgen -W "--kml --silence --help --version" -- "$word")) ;;
+        -*) COMPREPLY=($(compgen -W "--kml --silence --lat --lon --range --speed --help --version" -- "$word")) ;;
     esac
 }
 

@@ -21,7 +21,7 @@ Piece = Union[bytes, memoryview]
 REFUSALS = {**STRANGERS, Stranger.PACKED: "the input is compressed twice: unpack it once, and read the result"}
 # What to do if all items are damaged, if many times were set aside, if a live source is ahead of its arrivals, and if
 # times went back, in the words of `squitter feed`.
-ALL_DAMAGED = ": try without --format; the times of a table are seconds"
+ALL_DAMAGED = ": try another --format, or none; the times of a table are seconds"
 CLOCKS = "; try --arrival: the source seems to have several clocks"
 AHEAD = "the clock runs ahead of the arrivals: try --arrival, or read a recording from its file"
 BACK = "; timestamps behind a jump back are moved on: try --leap and --reorder to sort them"

@@ -23,8 +23,11 @@ NAP = 0.001  # seconds in which the reader of a pipe may make room
 LONGEST = 86_400  # seconds of one wait, because poll takes less than 2^31 milliseconds
 
 
+program = "squitter-feed"  # the name in front of reports; squitter-live sets its own
+
+
 def tell(text: str) -> None:
-    squitter_words.tell("squitter-feed", text)
+    squitter_words.tell(program, text)
 
 
 class Failure(Exception):
@@ -218,7 +221,14 @@ class Output:
         return self.printed.left, self.saved.left if self.saved else 0
 
 
-class Waiting:
+class Asking:
+    """Asks whether bytes have come, without waiting for them."""
+
+    def readable(self, source: Optional[int], _seconds: Optional[float]) -> bool:
+        return source is not None and source in ready({source: select.POLLIN}, 0)
+
+
+class Waiting(Asking):
     """Waits for bytes, for a signal, and for the output's reader to go away."""
 
     def __init__(self, signals: Signals, output: Output) -> None:

@@ -7,7 +7,7 @@ import threading
 import time
 from typing import Optional, Union
 
-from squitter_output import Waiting, tell
+from squitter_output import Asking, tell
 from squitter_words import PIECE, reason
 
 PAUSES = (1, 2, 4, 8, 16, 32, 60)  # seconds before the source is tried again
@@ -21,7 +21,8 @@ class NetworkSource:
 
     live = True
 
-    def __init__(self, host: str, port: int, waiting: Waiting) -> None:
+    def __init__(self, host: str, port: int, waiting: Asking) -> None:
+        self.longest = PAUSES[-1]  # seconds before the source is tried again, at most
         self.place = (host, port)
         self.name = f"[{host}]:{port}" if ":" in host else f"{host}:{port}"
         self.waiting = waiting
@@ -107,7 +108,7 @@ class NetworkSource:
         if self.link:
             self.link.close()
             self.link = None
-        pause = PAUSES[min(self.failures, len(PAUSES) - 1)]
+        pause = min(self.longest, PAUSES[min(self.failures, len(PAUSES) - 1)])
         self.failures += 1
         self.again = time.monotonic() + pause
         tell(f"{why}; again in {pause} s")

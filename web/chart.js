@@ -191,6 +191,7 @@ class TrackDrawing {
     if (last < 0 || isOut) return;
     const near = LEAST_STEP / scale / projection.stretch(Math.max(piece.north, -piece.south));
     let lon0 = Infinity, lat0 = Infinity, isDown = false;
+    if (piece.doubts) return this.hollow(piece, last);
     pen.beginPath();
     for (let at = 0; at <= last; at++) {
       const lon = lons[at], lat = lats[at], isShown = projection.shows(lat);
@@ -204,6 +205,18 @@ class TrackDrawing {
       lat0 = lat;
     }
     pen.stroke();
+  }
+
+  /** Draws positions that cannot be true. @param {Piece} piece */
+  hollow({ lons, lats }, last) {
+    const { map, pen } = this;
+    for (let at = 0; at <= last; at++) {
+      if (!map.projection.shows(lats[at])) continue;
+      const { x, y } = map.spot({ lon: lons[at], lat: lats[at] });
+      pen.beginPath();
+      pen.arc(x, y, MARK_SIZE, 0, 7);
+      pen.stroke();
+    }
   }
 
   /** Draws the line between two pieces. Over 180 degrees it goes to the one side and comes from the other, but around a

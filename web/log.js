@@ -83,7 +83,9 @@ class LogPanel {
     }
     this.answers = new LogAnswers(this.library);
     this.setFilter();
-    this.tracks = new Tracks(Number(settings.window));
+    // (the flights of the example are all over the world)
+    const site = options.where ? null : settings.site;
+    this.tracks = new Tracks(Number(settings.window), new PlaceWatch(this.library, site));
     this.map.show(this.tracks);
     this.playback.take(new Tracks(0));
     this.selected = options.selected ?? NaN;
@@ -147,6 +149,13 @@ class LogPanel {
     if (withoutSite) {
       const what = withoutSite === 1 ? "1 frame from the ground has" : `${withoutSite} frames from the ground have`;
       parts.push(`${what} no position: type the position of your receiver.`);
+    }
+    const { far, fast } = this.tracks;
+    if (far || fast) {
+      const reasons = [far && `${some(far, "position")} more than ${WATCHED_RANGE} nautical miles from your receiver`,
+        fast && `${some(fast, "position")} reached faster than ${WATCHED_SPEED} knots`].filter(Boolean);
+      parts.push(`Doubtful, drawn hollow: ${reasons.join(" and ")}. Are the timestamps milliseconds? Is the latitude ` +
+        "the first number of your receiver's position? Or have two aircraft one address?");
     }
     if (kind && refused === count) {
       parts.push(kind);

@@ -217,7 +217,12 @@ class TrackMap {
     if (!pen) return;
     pen.setTransform(ratio, 0, 0, ratio, 0, 0);
     pen.clearRect(0, 0, width, height);
-    new Chart(this, pen, ratio).draw();
+    this.chart(pen, ratio).draw();
+  }
+
+  /** Returns what draws the map once. @param {CanvasRenderingContext2D} pen @returns {Chart} */
+  chart(pen, ratio) {
+    return new Chart(this, pen, ratio);
   }
 
   listen() {

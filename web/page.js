@@ -7,24 +7,6 @@
 /** @typedef {import("./squitter.js").Position} Position */
 /** @typedef {import("./squitter.js").Place} Place */
 
-const { load, AirHead, GroundHead, Code, Format, Kind, Unit, What } = squitterModule();
-
-/** Returns the element with an id. @returns {any} */
-const byId = (id) => document.getElementById(id);
-
-/**
- * An element with attributes and children, which may be texts.
- * @param {string} name
- * @param {Record<string, any>} [attributes]
- * @param {...(Node | string)} children
- */
-function element(name, attributes = {}, ...children) {
-  const made = document.createElement(name);
-  for (const [key, value] of Object.entries(attributes)) made.setAttribute(key, String(value));
-  made.append(...children);
-  return made;
-}
-
 /** Returns a cell of a table. The first of a row is its head, and numbers have digits of one width. A narrow page shows
  * the head of the column beside the cell. */
 function cellOf(cell, index, head) {
@@ -42,8 +24,6 @@ function tableOf(caption, heads, rows) {
   const table = element("table", { class: heads.length > 2 ? "cards" : "rows" }, ...parts);
   return element("div", { class: "scroll", tabindex: 0, role: "region", "aria-label": caption }, table);
 }
-
-const hexadecimal = (number, digits) => number.toString(16).toUpperCase().padStart(digits, "0");
 
 /** Returns a fraction as text. */
 const fractionText = ({ num, den }) => `${num}/${den}`;

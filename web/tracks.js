@@ -1,8 +1,8 @@
 /* tracks.js: the positions of a log by their addresses, in pieces, with their moments and lines. */
 "use strict";
 
-/** @typedef {{pieces: Piece[], piece: Piece | null, moment: number, lon: number}} Track
- * The last piece, moment and longitude stand beside the pieces. */
+/** @typedef {{pieces: Piece[], piece: Piece | null, moment: number, lon: number, lat: number}} Track
+ * The last piece, moment and position stand beside the pieces. */
 /** @typedef {{address: number, lon: number, lat: number, moment: number, line: number, kind: number}} Spot
  * A position of a track. */
 
@@ -10,10 +10,12 @@
  * it fills. Four arrays of numbers took most of the time, because each garbage collection copied them. */
 class Piece {
   /** @param {boolean} joined whether the track goes on from the piece before: only 180 degrees or the kind cuts it
-   * @param {number} kind */
-  constructor(joined, kind) {
+   * @param {number} kind
+   * @param {number} doubts why its positions cannot be true, or 0 */
+  constructor(joined, kind, doubts = 0) {
     this.joined = joined;
     this.kind = kind;
+    this.doubts = doubts;
     this.count = 0;
     this.room = 8;
     this.block = new Float64Array(4 * this.room);
@@ -76,11 +78,48 @@ function heardBy(piece, until) {
   return low;
 }
 
-/** The tracks of a log, cut at 180 degrees, at take-off and landing, and where an address was silent for longer than
- * the window. */
+/** Nautical miles from the receiver, and knots, beyond which a position cannot be true. */
+const WATCHED_RANGE = 300, WATCHED_SPEED = 2000;
+
+/** The doubts about positions: further from the site of the receiver than the range, or reached faster than the speed.
+ * The library is asked only about those that are further away than all such miles can be short. */
+class PlaceWatch {
+  /** @param {Library} library @param {{lat: Fraction, lon: Fraction} | null} site */
+  constructor(library, site) {
+    this.library = library;
+    this.site = site;
+    const number = ({ num, den }) => Number(num) / Number(den);
+    this.here = site && { lat: number(site.lat), lon: number(site.lon) };
+  }
+
+  /** Returns why a position cannot be true, by the last one of its aircraft: 0, or BEYOND_RANGE, TOO_FAST or their sum.
+   * @param {Track} track */
+  doubts(lat, lon, moment, track) {
+    const isFar = this.here !== null && PlaceWatch.isAway(lat, lon, this.here, WATCHED_RANGE);
+    const hasMoved = track.piece !== null && PlaceWatch.isAway(lat, lon, track, 1);
+    if (!isFar && !hasMoved) return 0;
+    const at = (place) => ({ lat: place.lat.toFixed(7), lon: place.lon.toFixed(7) });
+    const before = hasMoved ? { moment: BigInt(track.moment), position: at(track) } : null;
+    const watch = { site: isFar ? this.site : null, range: WATCHED_RANGE, speed: WATCHED_SPEED };
+    return this.library.doubts(watch, BigInt(moment), at({ lat, lon }), before);
+  }
+
+  /** Whether two positions may be further apart than so many miles: a degree has at most 60. */
+  static isAway(lat, lon, from, miles) {
+    const least = miles / 60.001, apart = Math.abs(lon - from.lon);
+    return Math.abs(lat - from.lat) > least || Math.min(apart, 360 - apart) > least;
+  }
+}
+
+/** The tracks of a log, cut at 180 degrees, at take-off and landing, at positions that cannot be true, and where an
+ * address was silent for longer than the window. */
 class Tracks {
-  constructor(windowMilliseconds) {
+  /** @param {PlaceWatch | null} watch */
+  constructor(windowMilliseconds, watch = null) {
     this.window = windowMilliseconds;
+    this.watch = watch;
+    /** How many positions are beyond the range, and how many were reached too fast. */
+    this.far = this.fast = 0;
     /** @type {Map<number, Track>} */
     this.all = new Map();
     this.first = Infinity;
@@ -107,16 +146,18 @@ class Tracks {
 
   addPlace(address, lon, lat, moment, line, kind) {
     let track = this.all.get(address);
-    if (!track) this.all.set(address, (track = { pieces: [], piece: null, moment: -Infinity, lon: 0 }));
-    const isSilent = moment - track.moment > this.window;
+    if (!track) this.all.set(address, (track = { pieces: [], piece: null, moment: -Infinity, lon: 0, lat: 0 }));
+    const isSilent = moment - track.moment > this.window, doubts = this.watch?.doubts(lat, lon, moment, track) ?? 0;
+    if (doubts & BEYOND_RANGE) this.far++;
+    if (doubts & TOO_FAST) this.fast++;
     let { piece } = track;
-    if (!piece || isSilent || Math.abs(lon - track.lon) > 180 || piece.kind !== kind) {
-      piece = track.piece = new Piece(!isSilent, kind);
+    const isCut = isSilent || Boolean(doubts || piece?.doubts);
+    if (!piece || isCut || Math.abs(lon - track.lon) > 180 || piece.kind !== kind) {
+      piece = track.piece = new Piece(!isCut, kind, doubts);
       track.pieces.push(piece);
     }
     piece.add(lon, lat, moment, line);
-    track.moment = moment;
-    track.lon = lon;
+    Object.assign(track, { moment, lon, lat });
     if (moment < this.first) this.first = moment;
     if (moment > this.last) this.last = moment;
   }
@@ -180,7 +221,9 @@ class Tracks {
         // (named and in the order as the columns of track are)
         const [line, moment] = isLine ? [lines, moments] : [lines[0], moments[0]];
         const geometry = { type: isLine ? "LineString" : "Point", coordinates: isLine ? places : places[0] };
-        features.push({ type: "Feature", properties: { line, moment, address: hexadecimal(address, 6) }, geometry });
+        const doubtful = run[0].doubts ? { doubtful: true } : {};
+        const properties = { line, moment, address: hexadecimal(address, 6), ...doubtful };
+        features.push({ type: "Feature", properties, geometry });
       }
     }
     return { type: "FeatureCollection", features };

@@ -101,8 +101,8 @@ def vectors() -> None:
             # (many bytes one by one take long)
             compared(name, one, (1,) if sum(call.get("times", 1) for call in one["calls"]) < 9000 else (997,))
     left = sorted(name for name, one in asked.items() if one is None)
-    expect(len(left) < 80 and all(name.startswith(("feed/late/", "feed/largest/", "feed/order/", "feed/back/"))
-                                  for name in left), "left out:", left)
+    classes = {name.split("/")[1] for name in left}
+    expect(len(left) < 80 and classes <= {"late", "largest", "order", "back", "turn"}, "left out:", left)
     print(f"{len(cases) - len(left)} feeds, {len(left)} left out, with another --reorder")
 
 

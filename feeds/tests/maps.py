@@ -3,6 +3,7 @@ from __future__ import annotations
 
 import json
 import os
+import re
 import shutil
 import subprocess
 import tempfile
@@ -23,11 +24,12 @@ def answers() -> str:
 
 
 def drawn(log: str, text: str, *words: str) -> Tuple[int, str, str]:
-    """The status, the map and the report of answers to a log, both given as texts."""
+    """The status, the map and the report of answers to a log, both given as texts. No speed is too fast."""
     with tempfile.TemporaryDirectory() as work:
         with open(f"{work}/log", "w") as file:
             file.write(log)
-        done = subprocess.run([MAPS, f"{work}/log", *words], input=text, capture_output=True, text=True, timeout=60)
+        told = [MAPS, f"{work}/log", "--speed=0", *words]
+        done = subprocess.run(told, input=text, capture_output=True, text=True, timeout=60)
     return done.returncode, done.stdout, done.stderr
 
 
@@ -88,7 +90,12 @@ OF_JSON = dict(zip(COLUMNS, (1, 0, "fix", "40621D", "air", 52.5, 4, 75)))
 
 
 def of_rows(text: str, *words: str) -> Tuple[int, str, str]:
-    """The status, the map and the report of rows."""
+    """The status, the map and the report of rows. No speed is too fast."""
+    return watched(text, "--speed=0", *words)
+
+
+def watched(text: str, *words: str) -> Tuple[int, str, str]:
+    """The status, the map and the report of rows, whose doubtful places are told."""
     done = subprocess.run([MAPS, "-", *words], input=text.encode(), capture_output=True, timeout=60)
     return done.returncode, done.stdout.decode(), done.stderr.decode()
 
@@ -326,6 +333,101 @@ def cut() -> None:
         lines = lines_of(features(drawn(log, text)[1])["4B1001"])
         same((lines[0][1], lines[1][0]), (["180.0000000", *at], ["-180.0000000", *at]), gap, east)
     same(features(drawn("", "")[1]), {}, "nothing")
+
+
+def rows_of(*places: Tuple[int, str, str]) -> str:
+    """Rows of one aircraft: moment, latitude and longitude of each place."""
+    return HEADER + "".join(f",{moment},fix,4B1001,,{lat},{lon},\n" for moment, lat, lon in places)
+
+
+def doubted(text: str, *words: str) -> Any:
+    """Which places of an aircraft are doubtful, each in its line, or None, and how many are for each reason."""
+    status, drawing, said = watched(text, *words)
+    same(status, 0, said)
+    counts = [int(count) for count in re.findall(r"(\d+) positions? (?:more than|reached)", said)]
+    same(said.count("\n"), 1 if counts else 0, said)
+    return features(drawing)["4B1001"]["properties"].get("doubtful"), counts
+
+
+def doubts_at_borders() -> None:
+    """Places at the range and at the speed are true, and those just beyond are doubtful. Computed by hand: 60 nautical
+    miles are a degree of latitude, and as many as the zone count, 59 at the equator, are a degree of longitude."""
+    site = ("--lat=0", "--lon=0")
+    for lat, lon, reach, is_far in (
+        ("1.0000000", "0.0000000", 60, False), ("-1.0000001", "0.0000000", 60, True),
+        ("1.0000001", "0.0000000", 61, False), ("0.0000000", "-1.0000000", 59, False),
+        ("0.0000000", "1.0000001", 59, True), ("5.0000000", "0.0000000", 300, False),
+        ("5.0000001", "0.0000000", None, True), ("90.0000000", "180.0000000", 0, False),
+    ):
+        words = [*site, *([] if reach is None else [f"--range={reach}"])]
+        wanted = (True, [1]) if is_far else (None, [])
+        same(doubted(rows_of((5, lat, lon)), *words), wanted, lat, lon, reach)
+    # within a second 3,600 knots are a nautical mile, and one more is allowed: two are 0.0333333.. degrees
+    for gap, lat, speed, is_fast in ((1000, "0.0333333", 3600, False), (1000, "0.0333334", 3600, True),
+                                     (1000, "0.0333334", 0, False), (0, "0.0166666", 3600, False),
+                                     (0, "0.0166667", 3600, True), (-5, "0.0166667", 3600, True),
+                                     (3600, "0.0499999", None, False), (3600, "0.0500001", None, True)):
+        words = [] if speed is None else [f"--speed={speed}"]
+        text = rows_of((10, "0.0000000", "0.0000000"), (10 + gap, lat, "0.0000000"))
+        same(doubted(text, *words), ([[False, False], [True, True]] if is_fast else None, [1] if is_fast else []), lat)
+    near = rows_of((7, "0.0000000", "179.9999999"), (7, "0.0000000", "-179.9999999"))
+    same(doubted(near), (None, []), "the shorter way round")
+    polar = rows_of((7, "89.9000000", "0.0000000"), (7, "89.9000000", "180.0000000"))
+    same(doubted(polar, "--lat=88", "--lon=-90"), (None, []), "where the zone count is 1, longitudes are not compared")
+    late = rows_of((2**64 - 1, "0.0000000", "0.0000000"), (10**20 - 1, "0.0166666", "0.0000000"))
+    same(doubted(late), (None, []), "timestamps of 20 digits")
+    late = rows_of((10**20 - 2, "0.0000000", "0.0000000"), (10**20 - 1, "80.0000000", "0.0000000"))
+    same(doubted(late), ([[False, False], [True, True]], [1]), "timestamps above those of a log are the last one")
+
+
+def doubts_told() -> None:
+    """An exchanged site, seconds for milliseconds, and two aircraft with one address: no line joins a doubtful place,
+    and it is counted and told."""
+    pair = rows_of((500, "52.2657802", "3.9389125"))
+    same(doubted(pair, "--lat=52.31", "--lon=4.76"), (None, []))
+    same(doubted(pair, "--lat=4.76", "--lon=52.31"), (True, [1]))
+    # half a nautical mile in a second is 1,800 knots, and in a millisecond it is not
+    seconds = rows_of(*((second, f"{second / 60:.7f}", "4.0000000") for second in range(3)))
+    same(doubted(seconds), (None, []), "a mile more is allowed")
+    seconds = rows_of(*((second, f"{second / 30:.7f}", "4.0000000") for second in range(3)))
+    same(doubted(seconds), ([[False, False], [True, True], [True, True]], [2]))
+    both = rows_of((0, "1.0000000", "2.0000000"), (1, "1.0000000", "2.0000001"), (2, "50.0000000", "-100.0000000"),
+                   (3, "1.0000000", "2.0000002"), (4, "1.0000000", "2.0000003"))
+    status, drawing, said = watched(both, "--lat=1", "--lon=2", "--range=100")
+    one = features(drawing)["4B1001"]
+    same(one["properties"]["doubtful"], [[False, False], [True, True], [True, True], [False, False]])
+    same([[place[0] for place in line] for line in one["geometry"]["coordinates"]],
+         [["2.0000000", "2.0000001"], ["-100.0000000"] * 2, ["2.0000002"] * 2, ["2.0000003"] * 2])
+    same(one["properties"]["places"], 5)
+    same(said, "squitter-geojson: doubtful: 1 position more than 100 nautical miles from the site and 2 positions "
+               "reached faster than 2000 knots; are the timestamps milliseconds, is --lat the latitude, or have two "
+               "aircraft one address?\n")
+    across = watched(rows_of((5, "1.0000000", "179.0000000"), (6, "1.0000000", "-100.0000000")))[1]
+    same(features(across)["4B1001"]["geometry"]["coordinates"],
+         [[["179.0000000", "1.0000000"]] * 2, [["-100.0000000", "1.0000000"]] * 2], "no line to 180 degrees")
+    drawing = watched(both, "--kml")[1]
+    expect("<description>5 places, 2 doubtful</description>" in drawing and drawing.count("<gx:Track>") == 4, drawing)
+
+
+def doubts_refused() -> None:
+    """Half a site, a range without one, and words that are no numbers have status 2. Without the library nothing is
+    doubted, and words that ask for it are refused."""
+    for words, told in (
+        (["--lat=5"], "site needs lat and lon"), (["--lon=5"], "site needs lat and lon"),
+        (["--range=5"], "--range needs a site, --lat and --lon"), (["--speed=1e3"], "--speed: 1e3 is no whole number"),
+        (["--lat=5", "--lon=5", "--range=-1"], "--range: -1 is no whole number of at most 9 digits"),
+        (["--speed=1000000000"], "--speed: 1000000000 is no whole number of at most 9 digits"),
+        (["--lat=x", "--lon=5"], "not a number"), (["--lat=91", "--lon=5"], "bad position"),
+    ):
+        status, drawing, said = watched(HEADER + GOOD, *words)
+        expect((status, drawing) == (2, "") and told in said and "Traceback" not in said, words, said)
+    same(watched(HEADER + GOOD, "--speed=999999999", "--lat=52", "--lon=4", "--range=999999999")[0], 0)
+    without = {**os.environ, "LIBSQUITTER": "/nonesuch"}
+    far = rows_of((0, "0.0000000", "0.0000000"), (1, "50.0000000", "0.0000000")).encode()
+    for words, status in (([], 0), (["--speed=5"], 2), (["--lat=5", "--lon=5"], 2)):
+        done = subprocess.run([MAPS, "-", *words], input=far, capture_output=True, env=without, timeout=60)
+        expect(done.returncode == status and b"Traceback" not in done.stderr and b"doubtful" not in done.stdout, words)
+        expect(b"need libsquitter" in done.stderr if status else not done.stderr, words, done)
 
 
 def one_place() -> None:

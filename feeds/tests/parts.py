@@ -258,7 +258,7 @@ def tables_without_rows() -> None:
     """A table of milliseconds since 1970 has no row that can be read. If all items are damaged, the summary says what
     to try; one frame, or none at all, is no reason for it."""
     good, bad = f"1700000000.000,,{AIR_EVEN}\n", f"1700000000000,,{AIR_EVEN}\n"
-    advice = ": try without --format; the times of a table are seconds"
+    advice = ": try another --format, or none; the times of a table are seconds"
     for rows in (bad, bad * 3, bad + good, good + bad, good):
         lines, feed, _ = fed([(f"time,icao24,rawmsg\n{rows}".encode(), 5)], False)
         same([feed.is_damaged, len(lines)], [good not in rows, rows.count(".000")], rows)

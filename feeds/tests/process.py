@@ -21,6 +21,7 @@ from typing import IO, Any, Callable, Dict, Iterator, List, Sequence, Tuple, Uni
 
 import squitter_output
 import squitter_port
+import squitter_source
 from trying import AIR_EVEN, AIR_ODD, REPLY, Late, beast, clocked, expect, row, same, took
 
 TOP = os.path.dirname(os.path.dirname(os.path.dirname(os.path.abspath(__file__))))
@@ -30,7 +31,7 @@ SITE = ["--lat=52.31", "--lon=4.76"]
 
 def parts() -> Dict[str, Any]:
     """The classes and functions of the script and of its modules."""
-    return {**vars(squitter_output), **vars(squitter_port), **runpy.run_path(FEED)}
+    return {**vars(squitter_output), **vars(squitter_port), **vars(squitter_source), **runpy.run_path(FEED)}
 
 
 def program() -> str:
@@ -220,7 +221,7 @@ def without_library() -> None:
             same(tried(feed, environment, f"{work}/jump", "--leap=93")[2], "2 written, 1 set aside\n")
             same(tried(feed, environment, f"{work}/jump", "--leap=94")[2], "3 written\n")
             same(tried(feed, environment, f"{work}/late", "--format=csv"),
-                 (1, "", "0 written, 3 damaged: try without --format; the times of a table are seconds\n"))
+                 (1, "", "0 written, 3 damaged: try another --format, or none; the times of a table are seconds\n"))
             same(tried(feed, environment, f"{work}/late", "--arrival", "--reorder=1", "--all"),
                  (0, in_order, "3 written\n"))
             for words, what in ((["--save=x"], "--save"), (["--all", "--leap=5", "--save=x"], "--save")):

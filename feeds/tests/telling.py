@@ -75,8 +75,8 @@ def which_first() -> None:
         (["-"], LOG, True, 3, [of_output, two]),
         # An archive ends early, and the table in it has no row that can be read.
         (["-"], table[:-9], False, 1, ["-: the gzip archive ends early", None]),
-        (["-"], table, False, 1, ["squitter-feed: 0 written, 3000 damaged: try without --format; the times of a table "
-                                  "are seconds"]),
+        (["-"], table, False, 1, ["squitter-feed: 0 written, 3000 damaged: try another --format, or none; the "
+                                  "times of a table are seconds"]),
     ]
     for words, data, full, status, wanted in rows:
         got, said = outcome(words, data, full)
@@ -206,7 +206,7 @@ def refused_at_the_end() -> None:
         same((status, printed), (1, ""), data, said)
         expect(said.startswith("squitter-feed: -: no ") and said.count("\n") == 2, said)
         expect(said.endswith("\nsquitter-feed: 0 written, 1 damaged\n"), "what to try is told once", said)
-    said = "squitter-feed: 0 written, 1 damaged: try without --format; the times of a table are seconds\n"
+    said = "squitter-feed: 0 written, 1 damaged: try another --format, or none; the times of a table are seconds\n"
     same(ran(["-"], b"time,icao24,rawmsg\nx,,\n"), (1, "", said))
 
 

@@ -216,6 +216,6 @@ def closed_table() -> None:
             pipe.close()
             same(run.wait(timeout=30), status)
             said = reported(run)
-            advice = ": try without --format; the times of a table are seconds" if ends else ""
+            advice = ": try another --format, or none; the times of a table are seconds" if ends else ""
             same(said, f"squitter-feed: 0 written, 1 damaged{advice}\n")
             run.stdin = None  # (it is closed, and would be flushed)

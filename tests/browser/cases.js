@@ -1,5 +1,6 @@
 /* cases.js: a case of vectors/, asked of web/squitter.js. In the browser tests/page calls squitterCase; by
- * node this is an adapter: vectors/run 'node tests/browser/cases.js'. A word names another module of dist/. */
+ * node this is an adapter: vectors/run 'node tests/browser/cases.js'. A word names another module of dist/, or the
+ * folder of the installed package. */
 "use strict";
 
 /** The answer to a case, in the words of vectors/README.md. */

@@ -20,6 +20,34 @@ const pointer = (name, pointerId, offsetX, offsetY) => { const { left, top } = m
   map.canvas.dispatchEvent(new PointerEvent(name, { pointerId, clientX: left + offsetX, clientY: top + offsetY })); };
 map.canvas.setPointerCapture = () => {}"""
 
+# Tracks of one aircraft with places (latitude, longitude, ms), watched near a site: the doubts, and the pieces.
+WATCHED = """const here = { lat: { num: 0n, den: 1n }, lon: { num: 0n, den: 1n } };
+const doubted = (site, ...places) => { const tracks = new Tracks(9e9, new PlaceWatch(squitterLog.library, site));
+  places.forEach(([lat, lon, moment], at) => tracks.addPlace(1, lon, lat, moment, at, 1));
+  const found = tracks.pieces().map(({ doubts, joined, count }) => [doubts, joined, count]);
+  return [tracks.far, tracks.fast, ...found]; };"""
+JOINED = [0, 0, [0, False, 2]]
+
+WATCHED_ROWS: Rows = (
+    # 2000 knots and a mile: 2001 miles in an hour are 33.35 degrees
+    ("doubted(null, [0, 0, 0], [33.35, 0, 3600000])", JOINED),
+    ("doubted(null, [0, 0, 0], [33.3500001, 0, 3600000])", [0, 1, [0, False, 1], [2, False, 1]]),
+    ("doubted(null, [0, 0, 0], [33.35, 0, 3599999])", [0, 1, [0, False, 1], [2, False, 1]]),
+    ("doubted(null, [0, 0, 0], [0.0166666, 0, 0])", JOINED),
+    ("doubted(null, [0, 0, 0], [0.0166667, 0, 0])", [0, 1, [0, False, 1], [2, False, 1]]),
+    ("doubted(null, [0, 179.99, 0], [0, -179.99, 1000])", [0, 0, [0, False, 1], [0, True, 1]]),
+    # 300 miles: 5 degrees of latitude, 300 / 59 of longitude at the equator
+    ("doubted(here, [5, 0, 0], [5, 0, 1])", JOINED),
+    ("doubted(here, [5.0000001, 0, 0], [5, 0, 1])", [1, 0, [1, False, 1], [0, False, 1]]),
+    ("doubted(here, [0, 5.0847457, 0])", [0, 0, [0, False, 1]]),
+    ("doubted(here, [0, -5.0847458, 0])", [1, 0, [1, False, 1]]),
+    ("doubted(here, [80, 0, 0], [-80, 0, 1])", [2, 1, [1, False, 1], [3, False, 1]]),
+    # a track goes on after a doubtful place without a line to it
+    ("doubted(null, [0, 0, 0], [9, 0, 1000], [9, 0, 2000], [9, 0, 3000])",
+     [0, 1, [0, False, 1], [2, False, 1], [0, False, 2]]),
+    ("(doubted(here, [9, 0, 0]), new Tracks(0).far)", 0),
+)
+
 FIT = "[map.center.x, map.center.y, map.scale / Math.min(width / {0}, height / {1})]"
 
 MAP_ROWS: Rows = (
@@ -147,6 +175,19 @@ def map_moved(tries: Tries) -> str:
                            "data[at + 1] === 0 && data[at + 3] === 255; return count })()")
     expect(red == 0, red, "points of the drawing before are left")
     return f"{len(MAP_ROWS)} values"
+
+
+def places_watched(tries: Tries) -> str:
+    """Places that cannot be true are told from others, at the borders and beside them; no line joins them."""
+    browser = tries.page("log")
+    compared(browser, WATCHED_ROWS, WATCHED)
+    # an even frame from 52 4 and an odd one from 53.5 9, of two aircraft with one address
+    typed(browser, log_lat="52.31", log_lon="4.76")
+    given_log(browser, tries, b"0 8D4840D658C382AAAACCCDB6CB17\n400 8D4840D658C387127FB3335D4BDB\n")
+    expect(heard(browser) == b"1 waiting 4840D6\n2 fix 4840D6 -38.0254041 -165.5217511\n", "another ocean")
+    says(browser, "Doubtful, drawn hollow: 1 position more than 300 nautical miles from your receiver.")
+    expect("doubtful\":true" in browser.evaluate("JSON.stringify(squitterLog.tracks.geojson())"), "no doubt is saved")
+    return f"{len(WATCHED_ROWS)} values"
 
 
 PLAYED = """const { playback, map } = squitterLog, tracks = new Tracks(1000), asked = [];

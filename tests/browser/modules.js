@@ -15,8 +15,13 @@ function growByEither(memory) {
   };
 }
 
-/** Returns web/squitter.js, and the library that it loads from dist/NAME, by default the one of the product. */
+/** Returns web/squitter.js, and the library that it loads from dist/NAME, by default the one of the product. A path is
+ * that of an installed package, which loads its own module. */
 async function loaded(name = "squitter.wasm") {
+  if (name.includes("/")) {
+    const squitter = require(name);
+    return { squitter, library: await squitter.load() };
+  }
   const { instantiate } = WebAssembly;
   WebAssembly.instantiate = async (...given) => {
     const made = await instantiate(...given);

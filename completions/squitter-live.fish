@@ -1,0 +1,16 @@
+# Completion of squitter-live for fish.
+
+complete -c squitter-live -l lat -x -d 'The latitude of the receiver'
+complete -c squitter-live -l lon -x -d 'The longitude of the receiver'
+complete -c squitter-live -l port -x -d 'Serve at this port'
+complete -c squitter-live -l address -x -d 'Serve at this address'
+complete -c squitter-live -l speed -x -d 'Play a file so many times faster'
+complete -c squitter-live -l every -x -d 'Tell the map what is new each so many milliseconds'
+complete -c squitter-live -l table -d 'Show a table in the terminal'
+complete -c squitter-live -l limit -x -d 'Track at most so many aircraft'
+complete -c squitter-live -l format -x -a 'auto beast avr csv log' -d 'Read this format'
+complete -c squitter-live -l reorder -x -d 'Hold each frame and sort late frames in'
+complete -c squitter-live -l leap -x -d 'Let frames wait that jump ahead by more'
+complete -c squitter-live -l arrival -d 'Ignore the clock'
+complete -c squitter-live -l help -d 'Print help'
+complete -c squitter-live -l version -d 'Print the version'
