@@ -3,6 +3,11 @@
 // It stands for libos_c.a and liblibc_c.a of the Rattle toolchain, and says the same as their objects args, errno and heap do:
 // dist/os-same compares the instructions. The proofs take the contracts of these functions as written (crates os and libc of the
 // toolchain); os-test.c tries them.
+#ifdef WORDS_OF_MAIN
+#define _GNU_SOURCE
+#include <sys/syscall.h>
+#include <unistd.h>
+#endif
 #include <errno.h>
 #include <stdbool.h>
 #include <stddef.h>
@@ -12,10 +17,27 @@ static int count;
 static char **words;
 
 // glibc hands main's words to each constructor, of a static program too.
-__attribute__((constructor)) static void keep(int argc, char **argv) {
+#ifndef WORDS_OF_MAIN
+__attribute__((constructor))
+#endif
+static void keep(int argc, char **argv) {
   count = argc;
   words = argv;
 }
+
+#ifdef WORDS_OF_MAIN
+// musl hands constructors no words. So `main` is wrapped there, with ld's --wrap=main.
+int __real_main(int argc, char **argv);
+int __wrap_main(int argc, char **argv) {
+  keep(argc, argv);
+  return __real_main(argc, argv);
+}
+
+// musl before 1.2.5 has no statx.
+__attribute__((weak)) int statx(int folder, const char *path, int flags, unsigned mask, void *out) {
+  return (int)syscall(SYS_statx, folder, path, flags, mask, out);
+}
+#endif
 
 // Copies word `at` without its NUL to `to`, and returns its length: -1 where there is no such word, and -2 where it is longer than
 // `room`, and then `to` is full.

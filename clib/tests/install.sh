@@ -24,6 +24,36 @@ if command -v pkg-config > /dev/null; then
   eval "${CC:-cc} -o \"$work/example\" \"$clib/examples/example.c\" $flags"
   LD_LIBRARY_PATH="$prefix/lib" "$work/example" | diff "$clib/tests/example.expected" -
 fi
+if command -v cmake > /dev/null; then
+  mkdir "$work/project"
+  cp "$clib/examples/example.c" "$work/project/"
+  printf '#include <squitter.hpp>\nint main() { return squitter::Frame::parse("*").fault().code != SQUITTER_WRAP; }\n' \
+    > "$work/project/wrapped.cpp"
+  cat > "$work/project/CMakeLists.txt" << 'END'
+cmake_minimum_required(VERSION 3.13)
+project(user C CXX)
+set(CMAKE_CXX_STANDARD 17)
+find_package(squitter 0.0 REQUIRED)
+find_package(squitter REQUIRED)
+add_executable(shared example.c)
+target_link_libraries(shared squitter::squitter)
+add_executable(static example.c)
+target_link_libraries(static squitter::static)
+add_executable(wrapped wrapped.cpp)
+target_link_libraries(wrapped squitter::squitter)
+foreach(wanted 1 99.0)
+  find_package(squitter ${wanted} QUIET)
+  if(squitter_FOUND)
+    message(FATAL_ERROR "version ${wanted} is found")
+  endif()
+endforeach()
+END
+  mkdir "$work/project/out"
+  (cd "$work/project/out" && cmake -DCMAKE_PREFIX_PATH="$prefix" .. && make) > "$work/said" ||
+    { cat "$work/said"; exit 1; }
+  for one in shared static; do "$work/project/out/$one" | diff "$clib/tests/example.expected" -; done
+  "$work/project/out/wrapped"
+fi
 told=$(cd / && PYTHONPATH="$prefix/modules" "$python" -c 'import squitter; print(squitter.version())')
 test "$told" = "$(cat "$clib/../VERSION")"
 test -s "$prefix/share/man/man3/squitter_pair.3"
