@@ -16,8 +16,9 @@ sed -n 's:^NAME|\\(.*[^~]\\)~*$:\\1:p' SAYS | grep . || echo '1 passed, 0 failed
 ! grep -q '^NAME|.*~$' SAYS
 """
 SCRIPTS = ("dist/os-test dist/os-same dist/check dist/witnesses tests/launcher tests/module tests/portable "
-           "tests/platforms tests/layout tests/run tests/feeds tests/page tests/bench tests/aarch64 tests/packages "
-           "tests/planted.py tests/wrong-bodies tests/stamps hostile/run hostile/faces hostile/growths vectors/check "
+           "tests/program tests/static tests/platforms tests/layout tests/run tests/feeds tests/page tests/npm "
+           "tests/wheels tests/rust tests/bench tests/aarch64 tests/packages tests/release tests/planted.py "
+           "tests/wrong-bodies tests/stamps hostile/run hostile/faces hostile/growths vectors/check "
            "bench/instructions bench/peers clib/made").split()
 MAKEFILE = "all:\ncheck check-own:\n\t@./made\n"
 # The parts that call rt. All others run as a user has them.

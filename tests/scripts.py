@@ -23,10 +23,14 @@ FREE = {
     **{f"clib/tests/test_{name}.py": "a test; unittest says with status 1 that it is not there"
        for name in ("archive", "batch", "frames", "quick", "squitter")},
     "dist/differs": "a crate, which dist/sources refuses",
+    "clib/rust/pack": "a new folder",
     "dist/make": "a new folder",
+    "dist/release": "a new folder",
     "feeds/squitter-feed": "a file; the status is 3 if it is not there",
     "feeds/squitter-geojson": "a file too",
+    "feeds/squitter-live": "a file too",
     "tests/packages": "a new folder",
+    "web/pack": "a new folder",
     "vectors/run": "a command; the table says that it cannot be started",
 }
 # Scripts that import these modules before they read their words. They are not called if one is missing.

@@ -71,7 +71,7 @@ class Tries:
         self.stands = f"{work}/stands"
         os.mkdir(self.stands)
         os.symlink(program, f"{self.stands}/squitter")
-        for name in ("squitter-feed", "squitter-geojson"):
+        for name in ("squitter-feed", "squitter-geojson", "squitter-live"):
             os.symlink(f"{TOP}/feeds/{name}", f"{self.stands}/{name}")
         self.pandas = python_with("numpy", "pandas")
         self.has_node = bool(shutil.which("node"))
