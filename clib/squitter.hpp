@@ -27,6 +27,7 @@ using Fields = squitter_fields;
 using Heard = squitter_heard;
 using Answer = squitter_answer;
 using Entry = squitter_entry;
+constexpr std::size_t MANY = 64; // results of one call
 
 // Returns where a text starts, which is never null.
 inline const char *start(std::string_view text) { return text.data() != nullptr ? text.data() : ""; }
@@ -71,16 +72,17 @@ private:
   Fault fault_;
 };
 
-// Returns the value that a call wrote, or its fault.
-template <typename T, typename Call> Result<T> result_of(Call call) {
+// Returns the value that a call of squitter.h wrote by its last argument, or its fault.
+template <typename T> T *where(T &out) { return &out; }
+template <typename T, typename Call, typename... Arguments> Result<T> result_of(Call call, Arguments... arguments) {
   T out{};
-  if (const Fault fault = call(out)) return fault;
+  if (const Fault fault = call(arguments..., where(out))) return fault;
   return out;
 }
 
 // Parses degrees, as "-33.9".
 inline Result<Angle> angle(std::string_view text) {
-  return result_of<Angle>([&](Angle &out) { return squitter_angle_of_text(start(text), text.size(), &out); });
+  return result_of<Angle>(squitter_angle_of_text, start(text), text.size());
 }
 
 // Returns degrees with seven decimals.
@@ -96,41 +98,38 @@ public:
 
   // Parses 28 hexadecimal digits, bare or between `*` and `;`.
   static Result<Frame> parse(std::string_view of) {
-    return result_of<Frame>([&](Frame &out) { return squitter_frame_of_text(start(of), of.size(), out.bytes.data()); });
+    return result_of<Frame>(squitter_frame_of_text, start(of), of.size());
   }
   std::string text() const {
     std::string digits(SQUITTER_FRAME_DIGITS, '0');
     squitter_text_of_frame(bytes.data(), digits.data());
     return digits;
   }
-  Result<Fields> read() const {
-    return result_of<Fields>([&](Fields &out) { return squitter_read_frame(bytes.data(), &out); });
-  }
+  Result<Fields> read() const { return result_of<Fields>(squitter_read_frame, bytes.data()); }
   // Decodes the position near a reference, within half a zone of it.
   Result<Position> local(const Position &reference) const {
-    return result_of<Position>([&](Position &out) { return squitter_local(bytes.data(), &reference, &out); });
+    return result_of<Position>(squitter_local, bytes.data(), &reference);
   }
   // Encodes this frame again with a parity (0 even, 1 odd) and another position.
   Result<Frame> again(std::uint8_t odd, const Position &at) const {
-    return result_of<Frame>([&](Frame &out) { return squitter_send_again(bytes.data(), odd, &at, out.bytes.data()); });
+    return result_of<Frame>(squitter_send_again, bytes.data(), odd, &at);
   }
 };
+inline std::uint8_t *where(Frame &out) { return out.bytes.data(); }
 
 // Decodes the position of the newer of an even and an odd frame. On the ground a site (receiver position) is needed.
 inline Result<Position> pair(const Frame &older, const Frame &newer,
                              const std::optional<Position> &site = std::nullopt) {
-  return result_of<Position>([&](Position &out) {
-    return site ? squitter_pair_at(older.bytes.data(), newer.bytes.data(), &*site, &out)
-                : squitter_pair(older.bytes.data(), newer.bytes.data(), &out);
-  });
+  return site ? result_of<Position>(squitter_pair_at, older.bytes.data(), newer.bytes.data(), &*site)
+              : result_of<Position>(squitter_pair, older.bytes.data(), newer.bytes.data());
 }
 
 // Encodes the frame for a position in the air, or on the ground.
 inline Result<Frame> encode(const squitter_air_head &head, const Position &at) {
-  return result_of<Frame>([&](Frame &out) { return squitter_encode_air(&head, &at, out.bytes.data()); });
+  return result_of<Frame>(squitter_encode_air, &head, &at);
 }
 inline Result<Frame> encode(const squitter_ground_head &head, const Position &at) {
-  return result_of<Frame>([&](Frame &out) { return squitter_encode_ground(&head, &at, out.bytes.data()); });
+  return result_of<Frame>(squitter_encode_ground, &head, &at);
 }
 
 // A block that the caller lends, aligned as by malloc, or the wish for one of its own.
@@ -169,15 +168,13 @@ private:
   std::unique_ptr<std::max_align_t[]> own_;
 };
 
-// Returns all entries that a call writes from an index on; the call returns how many it wrote.
-template <typename Call> std::vector<Entry> entries_by(Call call) {
-  constexpr std::size_t MANY = 64;
+// Returns all entries since a time (ms) that a call writes from an index on; the call returns how many it wrote.
+template <typename Call, typename Of> std::vector<Entry> entries_of(Call call, Of *handle, std::uint64_t since) {
   std::vector<Entry> found;
-  std::size_t count = MANY;
-  while (count == MANY) {
+  for (std::size_t count = MANY; count == MANY;) {
     const std::size_t from = found.size();
     found.resize(from + MANY);
-    count = call(from, found.data() + from, MANY);
+    count = call(handle, since, from, found.data() + from, MANY);
     found.resize(from + count);
   }
   return found;
@@ -197,7 +194,7 @@ class Tracker : public Held<squitter_tracker> {
 public:
   struct State {
     squitter_last last{};
-    std::vector<squitter_entry> entries;
+    std::vector<Entry> entries;
   };
   explicit Tracker(const Settings &of = {}, Memory lent = {}) {
     const squitter_block at = block(lent, squitter_tracker_size(of.limit));
@@ -205,16 +202,13 @@ public:
                      : squitter_tracker_new(&handle_, at, of.limit, of.window);
   }
   ~Tracker() { squitter_tracker_free(&handle_); }
-
   Result<Heard> hear(std::uint64_t time, const Frame &one) {
-    return result_of<Heard>([&](Heard &out) { return squitter_tracker_hear(&handle_, time, one.bytes.data(), &out); });
+    return result_of<Heard>(squitter_tracker_hear, &handle_, time, one.bytes.data());
   }
   std::size_t size() const { return squitter_tracker_len(&handle_); }
   // Returns the state of each aircraft that was heard at `since` (ms) or later, the last heard first.
   std::vector<Entry> present(std::uint64_t since = 0) const {
-    return entries_by([&](std::size_t from, Entry *entries, std::size_t count) {
-      return squitter_tracker_present(&handle_, since, from, entries, count);
-    });
+    return entries_of(squitter_tracker_present, &handle_, since);
   }
   State save() const {
     State state;
@@ -223,8 +217,7 @@ public:
     return state;
   }
   Fault restore(const State &state) {
-    const squitter_entry none{};
-    const squitter_entry *entries = state.entries.empty() ? &none : state.entries.data();
+    const Entry none{}, *entries = state.entries.empty() ? &none : state.entries.data();
     return squitter_tracker_restore(&handle_, &state.last, entries, state.entries.size());
   }
 };
@@ -238,41 +231,29 @@ public:
                      : squitter_log_new(&handle_, at, of.limit, of.window);
   }
   ~Log() { squitter_log_free(&handle_); }
-
   // Calls `use` with the Answer for each line that ends in this piece.
-  template <typename Use> Fault take(std::string_view piece, Use use) {
-    return answers(use, [&](squitter_done &done) {
-      const Fault fault = squitter_log_take(&handle_, start(piece), piece.size(), out_.data(), out_.size(), &done);
-      if (!fault) piece.remove_prefix(done.taken);
-      return fault;
-    });
-  }
+  template <typename Use> Fault take(std::string_view piece, Use use) { return answers(use, &piece); }
   // Calls `use` with the Answers that wait, and with that for a last line without a line feed.
-  template <typename Use> Fault finish(Use use) {
-    return answers(use, [&](squitter_done &done) {
-      return Fault(squitter_log_finish(&handle_, out_.data(), out_.size(), &done));
-    });
-  }
+  template <typename Use> Fault finish(Use use) { return answers(use, nullptr); }
   // Returns the state of each aircraft that was heard at `since` (ms) or later, the last heard first.
   std::vector<Entry> present(std::uint64_t since = 0) const {
-    return entries_by([&](std::size_t from, Entry *entries, std::size_t count) {
-      return squitter_log_present(&handle_, since, from, entries, count);
-    });
+    return entries_of(squitter_log_present, &handle_, since);
   }
-  Result<squitter_tally> tally() const {
-    return result_of<squitter_tally>([&](squitter_tally &out) { return squitter_log_tally(&handle_, &out); });
-  }
+  Result<squitter_tally> tally() const { return result_of<squitter_tally>(squitter_log_tally, &handle_); }
 
 private:
-  template <typename Use, typename Call> Fault answers(Use &use, Call call) {
+  template <typename Use> Fault answers(Use &use, std::string_view *piece) {
     squitter_done done{};
     do {
-      if (const Fault fault = call(done)) return fault;
+      const Fault fault = piece ? squitter_log_take(&handle_, start(*piece), piece->size(), out_.data(), MANY, &done)
+                                : squitter_log_finish(&handle_, out_.data(), MANY, &done);
+      if (fault) return fault;
+      if (piece) piece->remove_prefix(done.taken);
       for (std::size_t at = 0; at < done.written; ++at) use(std::as_const(out_[at]));
-    } while (done.written == out_.size());
+    } while (done.written == MANY);
     return {};
   }
-  std::array<Answer, 64> out_{};
+  std::array<Answer, MANY> out_{};
 };
 
 // Finds the squitters in a receiver's bytes, in pieces of any length.
@@ -283,35 +264,25 @@ public:
     fault_ = squitter_feed_new(&handle_, block(lent, squitter_feed_size()), format, leap, late, flags);
   }
   ~Feed() { squitter_feed_free(&handle_); }
-
   // Calls `use` with the timestamp (ms) and the Frame of each squitter. `arrival` counts where the source is live.
   template <typename Use> Fault take(std::string_view piece, Use use, std::uint64_t arrival = 0) {
-    return frames(use, [&](squitter_done &done) {
-      const Fault fault = squitter_feed_take(&handle_, start(piece), piece.size(), arrival, moments_, MANY, frames_,
-                                             MANY, &done);
-      if (!fault) piece.remove_prefix(done.taken);
-      return fault;
-    });
+    return frames(use, &piece, arrival);
   }
   // Ends the source. The next bytes belong to another one.
-  template <typename Use> Fault finish(Use use, std::uint64_t arrival = 0) {
-    return frames(use, [&](squitter_done &done) {
-      return Fault(squitter_feed_finish(&handle_, arrival, moments_, MANY, frames_, MANY, &done));
-    });
-  }
+  template <typename Use> Fault finish(Use use, std::uint64_t arrival = 0) { return frames(use, nullptr, arrival); }
   Fault disconnected() { return squitter_feed_disconnected(&handle_); }
-  Result<std::uint32_t> format() const {
-    return result_of<std::uint32_t>([&](std::uint32_t &out) { return squitter_feed_format(&handle_, &out); });
-  }
-  Result<squitter_counts> counts() const {
-    return result_of<squitter_counts>([&](squitter_counts &out) { return squitter_feed_counts(&handle_, &out); });
-  }
+  Result<std::uint32_t> format() const { return result_of<std::uint32_t>(squitter_feed_format, &handle_); }
+  Result<squitter_counts> counts() const { return result_of<squitter_counts>(squitter_feed_counts, &handle_); }
 
 private:
-  template <typename Use, typename Call> Fault frames(Use &use, Call call) {
+  template <typename Use> Fault frames(Use &use, std::string_view *piece, std::uint64_t arrival) {
     squitter_done done{};
     do {
-      if (const Fault fault = call(done)) return fault;
+      const Fault fault = piece ? squitter_feed_take(&handle_, start(*piece), piece->size(), arrival, moments_, MANY,
+                                                     frames_, MANY, &done)
+                                : squitter_feed_finish(&handle_, arrival, moments_, MANY, frames_, MANY, &done);
+      if (fault) return fault;
+      if (piece) piece->remove_prefix(done.taken);
       for (std::size_t at = 0; at < done.written; ++at) {
         Frame one;
         std::copy_n(frames_[at], one.bytes.size(), one.bytes.begin());
@@ -320,7 +291,6 @@ private:
     } while (done.written == MANY);
     return {};
   }
-  static constexpr std::size_t MANY = 64;
   std::uint64_t moments_[MANY]{};
   std::uint8_t frames_[MANY][SQUITTER_FRAME_BYTES]{};
 };
