@@ -66,7 +66,7 @@ fn assert_present(rt: &impl Abort, tracker: &Tracker, table: &[(u32, u64)], sinc
                 return assert!(rt; false);
             };
             assert!(rt; shown == address && contact.moment == moment);
-            index += 1;
+            index = index.saturating_add(1);
         }
     }
     assert!(rt; tracker.present(since, index).is_none());
