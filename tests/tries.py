@@ -54,6 +54,18 @@ def text_of(path):
         return file.read()
 
 
+def all_passed(told, *rows):
+    """Returns how many cases passed, by the table that vectors/run printed. Fails if a case fails, and unless these
+    rows of docs/PLATFORMS.md have this number."""
+    found = re.search(r"^all +(\d+) +(\d+) .*? (\d+) +\.$", told, re.M)
+    expect(found and int(found[1]) == int(found[2]) + int(found[3]), told[-600:])
+    page = text_of("docs/PLATFORMS.md").splitlines()
+    for row in rows:
+        has_it = any(line.startswith(f"| {row} |") and f"| {int(found[2]):,} |" in line for line in page)
+        expect(has_it, f"docs/PLATFORMS.md does not say {int(found[2]):,} vectors of {row}")
+    return f"{found[2]} cases"
+
+
 def first_difference(got, wanted):
     """The first line in which two texts differ."""
     for number, (ours, theirs) in enumerate(zip(got.splitlines(True), wanted.splitlines(True)), 1):
