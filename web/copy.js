@@ -31,20 +31,32 @@ function selectText(node) {
   getSelection()?.addRange(range);
 }
 
-/** Returns a button that copies the text of an element. If the browser refuses, the button selects the text. */
-function copyButton(node, what) {
+/** Returns a button that copies a text, by default that of an element. If the browser refuses, the element shows the
+ * text, selected. */
+function copyButton(node, what, name = "Copy", textOf = () => node.textContent) {
   const button = element("button", { type: "button", class: "copy" });
   // The name for screen readers begins with the text, and changes with it.
   const say = (text, more) => {
     button.textContent = text;
     button.setAttribute("aria-label", `${text} ${more}`);
   };
-  say("Copy", what);
+  say(name, what);
   button.addEventListener("click", async () => {
-    const isCopied = await copyText(node.textContent);
-    if (!isCopied) selectText(node);
+    const text = textOf(), isCopied = await copyText(text);
+    if (!isCopied) {
+      node.textContent = text;
+      selectText(node);
+    }
     say(isCopied ? "Copied" : "Press Ctrl+C", isCopied ? what : `to copy ${what}`);
-    setTimeout(() => say("Copy", what), COPIED_FOR);
+    setTimeout(() => say(name, what), COPIED_FOR);
   });
   return button;
+}
+
+/** Returns buttons that copy texts which the page does not show, each with its name and what it copies.
+ * @param {[string, string, () => string][]} buttons */
+function copyRow(buttons) {
+  const shown = element("code", { class: "copied" });
+  const made = buttons.map(([name, what, textOf]) => copyButton(shown, what, name, textOf));
+  return element("p", { class: "examples" }, ...made, shown);
 }

@@ -142,18 +142,12 @@ function frameShown(library, text) {
   }
   const bits = bitsOf(library.frame(text)), rows = rowsOf(fields, bits);
   const head = element("p", { class: "answer" }, `${hexadecimal(fields.address, 6)}: ${KINDS[fields.kind]}`);
-  return [head, bitStrip(bits, rows), fieldTable(rows)];
+  const onward = element("p", {}, element("a", { href: linkOf("pair", ["", text]) }, "Find its position"));
+  return [head, ...(fields.kind ? [onward] : []), bitStrip(bits, rows), fieldTable(rows)];
 }
 
 /** @param {Library} library */
 function startFrame(library) {
   const input = byId("frame-text");
-  const answer = () => showAnswer(byId("frame-answer"), frameShown(library, input.value.trim()));
-  answerWith(byId("frame-form"), answer);
-  for (const button of document.querySelectorAll("[data-frame]")) {
-    button.addEventListener("click", () => {
-      input.value = /** @type {HTMLElement} */ (button).dataset.frame;
-      answer();
-    });
-  }
+  answerWith(byId("frame-form"), () => showAnswer(byId("frame-answer"), frameShown(library, input.value.trim())));
 }

@@ -329,6 +329,8 @@ class LogPanel {
       if (heard.trim()) this.hear(new Blob([heard]), "pasted text");
     };
     field.addEventListener("change", () => field.value === heard || hearText());
+    // A link fills in the whole form.
+    byId("log-form").addEventListener("input", ({ target, currentTarget }) => target === currentTarget && hearText());
     field.addEventListener("paste", (event) => {
       const text = event.clipboardData?.getData("text/plain");
       if (!text) return;

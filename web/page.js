@@ -126,6 +126,8 @@ addEventListener("DOMContentLoaded", async () => {
   startPlace(library);
   startSend(library);
   startLog(library);
+  const { hash } = location; // before the tabs name themselves in it
   startTabs();
+  startLinks(hash);
   document.documentElement.dataset.ready = "yes";
 });

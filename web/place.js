@@ -9,7 +9,9 @@ function placeShown(place, picture) {
   const table = tableOf("The position in degrees", ["", "Decimal", "Exact"],
     [row("latitude", place.lat), row("longitude", place.lon)]);
   const words = element("p", { class: "answer" }, `Latitude ${place.lat}, longitude ${place.lon}`);
-  return [words, element("div", { class: "side" }, ...picture, table)];
+  const copied = copyRow([["Copy decimals", "of the position", () => `${place.lat} ${place.lon}`],
+    ["Copy fractions", "of the position", () => `${fractionText(place.lat)} ${fractionText(place.lon)}`]]);
+  return [words, copied, element("div", { class: "side" }, ...picture, table)];
 }
 
 /** Returns the receiver position that is typed, or null if both fields are empty. */
@@ -123,8 +125,12 @@ function placeAnswer(library) {
   const newer = byId("place-newer").value.trim(), older = byId("place-older").value.trim();
   const lat = byId("place-lat").value, lon = byId("place-lon").value;
   try {
-    return isPair ? pairShown(library, older, newer, siteTyped(library, lat, lon))
-      : localShown(library, newer, positionOf(library, lat, lon));
+    if (!isPair) return localShown(library, newer, positionOf(library, lat, lon));
+    if (!older) return [element("p", {}, "Type the older frame: of the same aircraft, and of the other parity.")];
+    const [first, ...others] = pairShown(library, older, newer, siteTyped(library, lat, lon));
+    const log = linkOf("log", [`0 ${older}\n1000 ${newer}`, lat, lon]);
+    const onward = element("p", {}, element("a", { href: log }, "Decode both as a log, one second apart"));
+    return [first, onward, ...others];
   } catch (error) {
     return [refusal("Refused", error)];
   }
@@ -132,16 +138,5 @@ function placeAnswer(library) {
 
 /** @param {Library} library */
 function startPlace(library) {
-  const answer = () => showAnswer(byId("place-answer"), placeAnswer(library));
-  answerWith(byId("place-form"), answer);
-  for (const button of document.querySelectorAll("[data-place]")) {
-    button.addEventListener("click", () => {
-      const words = /** @type {HTMLElement} */ (button).dataset.place.split(" "), isPair = words[0] === "pair";
-      const given = isPair ? words.slice(1) : [byId("place-older").value, ...words.slice(1)];
-      const [older, newer, lat = "", lon = ""] = given;
-      /** @type {any} */ (document.querySelector(`[name=place-from][value=${words[0]}]`)).checked = true;
-      Object.entries({ older, newer, lat, lon }).forEach(([name, value]) => { byId(`place-${name}`).value = value; });
-      answer();
-    });
-  }
+  answerWith(byId("place-form"), () => showAnswer(byId("place-answer"), placeAnswer(library)));
 }

@@ -25,7 +25,7 @@ def frames(tries: Tries) -> str:
         }))"""
     )
     expect(wrong == [], "bits and values differ:", wrong)
-    clicked(browser, "[data-frame]")
+    clicked(browser, "[data-link]")
     says(browser, "38000 feet", "93000", "40621D", of="#frame-answer")
     return f"{len(good)} frames"
 
@@ -75,9 +75,9 @@ def answer_beside_program(tries: Tries, way: str, older: str, newer: str, lat: s
 def pictures_of_zones(browser: Chromium) -> int:
     """The pictures of zones, by the examples, have the sizes and the marks that they should; how many there are."""
     ways = (
-        ("[data-place^=local]", "6/1", "10/1", 9),
-        ("[data-place*='8D40621D58C386']", "360/59", "72/7", 17),
-        ("[data-place*='8C4841']", "90/59", "18/7", 8),
+        ("[data-link^='#local']", "6/1", "10/1", 9),
+        ("[data-link*='8D40621D58C386']", "360/59", "72/7", 17),
+        ("[data-link^='#pair=8C4841']", "90/59", "18/7", 8),
     )
     for example, height, width, squares in ways:
         clicked(browser, example)

@@ -106,7 +106,7 @@ def pictured_land(browser: Chromium) -> int:
     """Land is in the pictures of a position and of what is encoded; a picture of some metres has none. Returns how
     many pictures there are."""
     whole = "{ lon: 0, lat: 0 }, 180, 90"
-    shown_whole = (("place", "[data-place*='8C4841']", "#place-answer"), ("send", "#tab-send", "#send-map"))
+    shown_whole = (("place", "[data-link^='#pair=8C4841']", "#place-answer"), ("send", "#tab-send", "#send-map"))
     for tab, example, picture in shown_whole:
         clicked(browser, f"#tab-{tab}")
         clicked(browser, example)
@@ -114,7 +114,7 @@ def pictured_land(browser: Chromium) -> int:
             got = browser.evaluate(f"{IN_PICTURE}('{picture} svg', {lon}, {lat}, {whole})")
             expect(got == on_land, name, "is", got, "in", picture)
     clicked(browser, "#tab-place")
-    clicked(browser, "[data-place^=local]")
+    clicked(browser, "[data-link^='#local']")
     local = "{ lon: 3.918, lat: 52.258 }, 16, 9.6"
     for lon, lat, on_land in ((2.5, 46.6, True), (3, 55, False), (-2, 53, True)):
         got = browser.evaluate(f"{IN_PICTURE}('#place-answer svg', {lon}, {lat}, {local})")

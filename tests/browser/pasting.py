@@ -143,9 +143,9 @@ def copied(tries: Tries) -> str:
             else:
                 expect(said == "Copied" and there == frame, name, parity, said, there, frame)
             expect(browser.evaluate(f"document.activeElement === document.querySelector('{button}')"), "focus", name)
-        browser.wait("![...document.querySelectorAll('.copy')].some((one) => one.textContent !== 'Copy')")
+        browser.wait("![...document.querySelectorAll('#send-answer .copy')].some((one) => one.textContent !== 'Copy')")
     left = browser.evaluate("[document.querySelectorAll('body > textarea').length, "
-                            "...[...document.querySelectorAll('.copy')].map((one) => one.getAttribute('aria-label'))]")
+                            "...[...document.querySelectorAll('#send-answer .copy')].map((one) => one.getAttribute('aria-label'))]")
     expect(left == [0, "Copy the even frame", "Copy the odd frame"], left)
     frames = [shown(browser, f"#send-answer .card:nth-child({at}) code") for at in (1, 2)]
     tops = browser.evaluate("[...document.querySelectorAll('#send-answer .card')].map((one) => "
@@ -170,15 +170,15 @@ CUT = """[...document.querySelectorAll('main *')].filter((one) => {
 }).map((one) => one.outerHTML.slice(0, 100))"""
 
 STATES = (
-    ("frame", "[data-frame='8D40621D58C382D690C8AC2863A7']"),
-    ("frame", f"[data-frame='{GROUND_ODD}']"),
-    ("frame", "[data-frame='8D4840D6202CC371C32CE0576098']"),
-    ("frame", "[data-frame='8D40621D58C382D690C8AC2863A6']"),
-    ("frame", "[data-frame^='*']"),
-    ("place", "[data-place*='8D40621D58C386']"),
-    ("place", "[data-place^=local]"),
-    ("place", "[data-place*='8C4841']"),
-    ("place", "[data-place*='8D43029E']"),
+    ("frame", "[data-link='#frame=8D40621D58C382D690C8AC2863A7']"),
+    ("frame", f"[data-link='#frame={GROUND_ODD}']"),
+    ("frame", "[data-link='#frame=8D4840D6202CC371C32CE0576098']"),
+    ("frame", "[data-link='#frame=8D40621D58C382D690C8AC2863A6']"),
+    ("frame", "[data-link^='#frame=*']"),
+    ("place", "[data-link*='8D40621D58C386']"),
+    ("place", "[data-link^='#local']"),
+    ("place", "[data-link^='#pair=8C4841']"),
+    ("place", "[data-link*='8D43029E']"),
     ("send", "[name=send-kind][value=ground]"),
     ("send", "[name=send-kind][value=air]"),
     ("log", "summary"),
@@ -222,7 +222,7 @@ def place_form(tries: Tries) -> str:
     numbers."""
     browser = tries.page("place")
     for way, older, newer, lat in FORMS:
-        clicked(browser, f"[data-place^={way}]")
+        clicked(browser, f"[data-link^='#{way}']")
         labels = browser.evaluate("[...document.querySelectorAll('#place-form .fields label')].filter((one) => "
                                   "one.offsetParent).map((one) => one.textContent)")
         expect(labels[:-1] == [text for text in (older, newer, lat) if text], way, labels)
@@ -253,8 +253,8 @@ def picture_labels(tries: Tries) -> str:
     """No label of a picture overlaps another or a mark, or is cut: of positions by the examples, and of frames of
     positions in many places, some of which round to nearly the same point."""
     browser, count = tries.page("place"), 0
-    for example in ("[data-place*='8D40621D58C386']", "[data-place^=local]", "[data-place*='8C4841']",
-                    "[data-place*='8D43029E']"):
+    for example in ("[data-link*='8D40621D58C386']", "[data-link^='#local']", "[data-link^='#pair=8C4841']",
+                    "[data-link*='8D43029E']"):
         clicked(browser, example)
         labels, found = browser.evaluate(f"{OVERLAPS}('#place-answer svg')")
         expect(found == [] and labels > 3, example, "has labels that overlap:", found, "of", labels)

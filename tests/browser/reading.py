@@ -29,11 +29,11 @@ def read_aloud(tries: Tries) -> str:
     browser = tries.page("frame")
     said = "[...document.querySelectorAll('#panel-{0} [aria-live]')].map((one) => one.innerText).join('|')"
     rows = (
-        ("frame", "[data-frame='8D40621D58C382D690C8AC2863A7']", "40621D: airborne position"),
-        ("frame", "[data-frame='*8D40621D58C382D690G8AC2863A7;']", "Refused: "),
-        ("place", "[data-place^='pair 8D40621D']", "Latitude 52.2657802, longitude 3.9389125"),
-        ("place", "[data-place^='local']", "Latitude 52.2572021, longitude 3.9193726"),
-        ("place", "[data-place^='pair 8D43029E']", "Latitude -90.0000000, longitude "),
+        ("frame", "[data-link='#frame=8D40621D58C382D690C8AC2863A7']", "40621D: airborne position"),
+        ("frame", "[data-link='#frame=*8D40621D58C382D690G8AC2863A7;']", "Refused: "),
+        ("place", "[data-link^='#pair=8D40621D']", "Latitude 52.2657802, longitude 3.9389125"),
+        ("place", "[data-link^='#local']", "Latitude 52.2572021, longitude 3.9193726"),
+        ("place", "[data-link^='#pair=8D43029E']", "Latitude -90.0000000, longitude "),
     )
     for panel, button, wanted in rows:
         clicked(browser, f"#tab-{panel}")

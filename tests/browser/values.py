@@ -355,7 +355,7 @@ def frame_tables(tries: Tries) -> str:
         mark = text[at:at + 1] or " "
         expect(marked == [mark, f"{text[:at]}{mark}{text[at + 1:]}{' ' * at}^"], text, marked)
         expect(shown(browser, "#frame-answer").endswith(said), text, shown(browser, "#frame-answer"))
-    clicked(browser, f"[data-frame='{GROUND_ODD}']")
+    clicked(browser, f"[data-link='#frame={GROUND_ODD}']")
     expect(shown(browser, "#frame-answer").startswith("484175: surface"), "an example is not shown at once")
     count = compared(browser, (
         ("[ROWS[0][1].value({ address: 0xAB }), ROWS[0][3].value({ raw: 0xABn })]", ["0000AB", "ME 000000000000AB"]),
@@ -400,7 +400,7 @@ def place_tables(tries: Tries) -> str:
     typed(browser, place_older=AIR_ODD, place_newer=AIR_EVEN)
     got = browser.evaluate(ANSWER_CELLS.format("place-answer"))
     expect(got[2:] == [*([name, new, old] for name, old, new in PAIR_STEPS), *EVEN_ZONE], got)
-    clicked(browser, "[data-place^=local]")
+    clicked(browser, "[data-link^='#local']")
     got = browser.evaluate(ANSWER_CELLS.format("place-answer"))
     first = [["parity", "even"], ["latitude code", "93000"], ["longitude code", "51372"],
              ["longitude zones (NL) at the reference", "36"], *EVEN_ZONE]
@@ -412,7 +412,7 @@ def place_tables(tries: Tries) -> str:
                             "#place-newer-label')].map((one) => one.hidden || one.textContent)") ==
            [True, "Frame", "Latitude of the reference", "Longitude of the reference"], "the labels of one frame")
     expect(value_of(browser, "place-older") == AIR_ODD, "the older frame is kept")
-    clicked(browser, "[data-place*='8D43029E']")
+    clicked(browser, "[data-link*='8D43029E']")
     expect([value_of(browser, f"place-{name}") for name in ("lat", "lon")] == ["", ""], "an example without a receiver")
     expect(browser.evaluate("document.querySelector('[name=place-from]:checked').value") == "pair", "two frames")
     # 54.5 degrees are in zone 9 of the even frame and in zone 8 of the odd one, 43 degrees east in 4 and 3
@@ -428,7 +428,7 @@ def place_tables(tries: Tries) -> str:
 
 def ground_tables(browser: Chromium) -> int:
     """The positions of a pair on the ground for receivers in each quarter, a quarter turn apart."""
-    clicked(browser, "[data-place*='8C4841']")
+    clicked(browser, "[data-link^='#pair=8C4841']")
     cells = browser.evaluate(ANSWER_CELLS.format("place-answer"))
     lat, lon = cells[0][1], float(cells[1][1])
     expect(abs(float(lat) - 52.3206) < 1e-3 and abs(lon - 4.7347) < 1e-3, cells[:2])

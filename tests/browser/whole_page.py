@@ -213,12 +213,11 @@ def widths(tries: Tries) -> str:
 
 def narrow_examples(browser: Chromium) -> int:
     """All examples of the panels, and an error of the last one, on the narrowest phone. Returns how many there are."""
-    buttons = "[...document.querySelectorAll('[data-frame], [data-place]')]"
+    buttons = "[...document.querySelectorAll('[data-link]')]"
     count = browser.evaluate(f"{buttons}.length")
     for index in range(count):
         wide = browser.evaluate(
-            f"(() => {{ const one = {buttons}[{index}]; byId(`tab-${{one.dataset.frame ? 'frame' : 'place'}}`).click();"
-            "one.click(); return document.documentElement.scrollWidth })()"
+            f"(() => {{ {buttons}[{index}].click(); return document.documentElement.scrollWidth }})()"
         )
         expect(wide <= 280, "example", index + 1, "is", wide, "wide")
     clicked(browser, "#tab-log")
