@@ -1,6 +1,6 @@
 """A small server of HTTP for a live view: all clients in one thread, by one selector.
 
-It serves what is in a table, and nothing of a request is ever joined to a path. A stream of events goes to each client
+It serves what a function finds. Nothing of a request is ever joined to a path. A stream of events goes to each client
 that has taken the last one. A client that has not misses events, and then gets the whole state."""
 from __future__ import annotations
 
@@ -18,6 +18,7 @@ BUFFER = 1 << 16  # bytes that the system may hold for a client
 POLICY = ("default-src 'none'; script-src 'self'; style-src 'self'; connect-src 'self'; img-src 'self' data:; "
           "base-uri 'none'; form-action 'none'; frame-ancestors 'none'")
 Document = Tuple[str, bytes]  # a media type, and the bytes
+Find = Callable[[str], Optional[Document]]  # makes the document of a path, if there is one
 
 
 def head(status: str, kind: str, length: Optional[int] = None) -> bytes:
@@ -84,12 +85,12 @@ def asked_for(text: bytes) -> Tuple[bool, str]:
 
 
 class Server:
-    """Serves documents by their paths, each made by a function, and a stream of events at another path."""
+    """Serves documents by their paths, and a stream of events at another path."""
 
     def __init__(self, selector: selectors.BaseSelector, address: str, port: int,
-                 documents: Dict[str, Callable[[], Document]], stream: str, first: Callable[[], bytes]) -> None:
+                 find: Find, stream: str, first: Callable[[], bytes]) -> None:
         """Listens at once. A new client of the stream gets what `first` returns. Raises OSError."""
-        self.selector, self.documents, self.path, self.first = selector, documents, stream, first
+        self.selector, self.find, self.path, self.first = selector, find, stream, first
         family = socket.AF_INET6 if ":" in address else socket.AF_INET
         self.listener = socket.create_server((address, port), family=family, backlog=128)
         self.listener.setblocking(False)
@@ -157,9 +158,10 @@ class Server:
                 begin = head(status, "text/event-stream") + (b"retry: 2000\n\n" + self.first()) * is_get
                 self.put(client, begin)
                 return
-            if path not in self.documents:
+            found = self.find(path)
+            if found is None:
                 raise Refusal("404 Not Found")
-            kind, body = self.documents[path]()
+            kind, body = found
             self.counts["served"] += 1
         except Refusal as why:
             self.counts["refused"] += 1

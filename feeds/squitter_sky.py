@@ -9,6 +9,7 @@ from typing import Any, Deque, Dict, List, Optional, Tuple, Union
 import squitter
 from squitter import Doubt, Kind, LastFix, Present
 from squitter_extras import Extras, extras_of
+from squitter_why import Why
 
 GONE = 60_000  # milliseconds after which an aircraft is no longer shown
 TAIL = 180_000  # milliseconds of a trail
@@ -32,7 +33,8 @@ def is_near(place: Tuple[float, float], other: Optional[Tuple[float, float]], mi
 class Plane:
     """An aircraft: what the tracker keeps of it, and what the view adds. The doubts are those of its last place."""
 
-    __slots__ = ("address", "doubts", "extras", "feet", "fix", "heard", "messages", "place", "tick", "trail")
+    __slots__ = ("address", "doubts", "extras", "feet", "fix", "heard", "messages", "place", "tick", "trail",
+                 "why")
 
     def __init__(self, address: int) -> None:
         self.address = f"{address:06X}"
@@ -44,6 +46,7 @@ class Plane:
         self.heard = self.messages = 0
         self.tick = 0  # the event that tells of it
         self.trail: Deque[Point] = deque()
+        self.why = Why()
 
     def take(self, known: Present, sky: Sky) -> bool:
         """Takes what the tracker keeps of the aircraft. Returns whether it has a new place."""
@@ -89,19 +92,21 @@ class Sky:
         """Takes lines of a log, whole ones."""
         since = self.last
         for line, row in zip(lines.splitlines(), self.log.take_text(lines).decode().splitlines()):
-            _, moment, answer, address, kind, _, _, _ = row.split(",")
+            _, moment, answer, address, kind, lat, lon, _ = row.split(",")
             self.answers[" ".join(word for word in answer.split() if word.islower())] += 1
             if address and moment:
                 self.last = int(moment)
-                self.count(int(address, 16), line if kind == "other" else b"")
+                plane = self.count(int(address, 16), line if kind == "other" else b"")
+                if kind != "other":
+                    plane.why.take(line, answer, kind, lat, lon)
         for known in self.log.present(since):
-            plane = self.planes.get(known.address)
-            if plane is not None and plane.take(known, self):
+            found = self.planes.get(known.address)
+            if found is not None and found.take(known, self):
                 for doubt in DOUBTS:
-                    self.doubtful[doubt] += doubt in plane.doubts
+                    self.doubtful[doubt] += doubt in found.doubts
 
-    def count(self, address: int, other: bytes) -> None:
-        """Counts a message of an aircraft, and reads the line of one without a position."""
+    def count(self, address: int, other: bytes) -> Plane:
+        """Counts a message of an aircraft, and reads the line of one without a position. Returns the aircraft."""
         plane = self.planes.get(address)
         if plane is None:
             plane = self.planes[address] = Plane(address)
@@ -109,6 +114,7 @@ class Sky:
         plane.messages += 1
         if other:
             plane.extras = {**plane.extras, **extras_of(squitter.read(other.split()[1].strip(b"*;").decode()).raw)}
+        return plane
 
     def forget(self, now: int) -> None:
         """Drops aircraft that were not heard for a while."""
@@ -128,6 +134,15 @@ class Sky:
     def told_doubts(self) -> Dict[str, int]:
         """Returns how many places cannot be true, by the reason."""
         return {text: self.doubtful[doubt] for doubt, text in DOUBTS.items()}
+
+    def why(self, address: int) -> Optional[str]:
+        """Returns why an aircraft is where it is, or None if it is not present or has sent no position frame."""
+        plane = self.planes.get(address)
+        if plane is None or not plane.why.line:
+            return None
+        doubts = [text for doubt, text in DOUBTS.items() if doubt in plane.doubts]
+        position = plane.fix.position if plane.fix else None
+        return dumped({"address": plane.address, "doubts": doubts, **plane.why.told(self.site, position)})
 
     def trails(self) -> str:
         return dumped({plane.address: list(plane.trail) for plane in self.planes.values() if plane.trail})

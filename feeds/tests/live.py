@@ -426,7 +426,7 @@ def misused() -> None:
 def server(**limits: Any) -> Iterator[Tuple[Server, Callable[[], None]]]:
     """A server in this process, with limits that are short enough to see, and what has it work for a moment."""
     with mock.patch.multiple(squitter_server, **limits), selectors.DefaultSelector() as selector:
-        made = Server(selector, "127.0.0.1", 0, {"/": lambda: ("text/plain", b"x" * 1_000_000)}, "/live", lambda: b"")
+        made = Server(selector, "127.0.0.1", 0, {"/": ("text/plain", b"x" * 1_000_000)}.get, "/live", lambda: b"")
 
         def work() -> None:
             for _ in range(50):
