@@ -10,7 +10,12 @@ const STEP_WIDE = 30;
 class LivePage {
   constructor() {
     this.tracks = new LiveTracks();
-    this.map = new LiveMap(byId("map"), { say: () => {}, tell: () => {}, select: () => this.list() });
+    this.why = new WhyPanel();
+    const select = (address) => {
+      this.why.ask(address);
+      this.list();
+    };
+    this.map = new LiveMap(byId("map"), { say: () => {}, tell: () => {}, select });
     this.map.tracks = this.tracks;
     this.by = "name";
     /** @type {Map<number, any>} */
@@ -60,6 +65,7 @@ class LivePage {
     const isBad = state === "not connected";
     this.say(isBad ? "receiver not connected" : state === "ended" ? "ended" : "live", isBad);
     if (!map.moved && (isWhole || !this.isFitted)) this.fit();
+    if (rows.some(([text]) => parseInt(text, 16) === map.address)) this.why.ask(map.address);
     this.list();
     map.redraw();
   }
@@ -118,6 +124,7 @@ class LivePage {
     this.tell(shown.length);
     const chosen = tracks.planes.get(map.address);
     byId("chosen").replaceChildren(...(chosen ? this.card(chosen) : []));
+    if (!chosen) byId("why").hidden = true;
   }
 
   /** Tells how many aircraft there are, and how many positions cannot be true. */

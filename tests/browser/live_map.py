@@ -1,10 +1,12 @@
 """Parts of tests/page about the live map, which squitter-live serves: what it draws, its list, and its end."""
+import json
 import os
 import re
+import shlex
 import signal
 import subprocess
 from contextlib import contextmanager
-from typing import Iterator, List
+from typing import Any, Dict, Iterator, List, Tuple
 
 from chromium import Chromium
 from trying import TOP, Tries, expect
@@ -108,6 +110,92 @@ def live_marks(tries: Tries) -> str:
     return "4 marks, 5 pieces"
 
 
+EVEN = {"frame": "E", "moment": 1000, "parity": "even"}
+ODD = {"frame": "O", "moment": 1400, "parity": "odd"}
+FIX = {"answer": "fix", "frames": [EVEN, ODD], "near": None, "lat": "1/2", "lon": "-3/4", "command": "c"}
+FOLLOWED = {**FIX, "answer": "followed", "frames": [EVEN], "near": ["1.5", "-2.5"]}
+EVEN_LINE, ODD_LINE = ["even frame, at 1000 ms", "E"], ["odd frame, at 1400 ms", "O"]
+LAST = [["latitude", "1/2"], ["longitude", "-3/4"], ["This command gives it again:"]]
+FIX_LINES = [["fix: the position of the newer of two frames."], EVEN_LINE, ODD_LINE, *LAST]
+FOLLOWED_LINES = [["followed: the position of one frame near the one before, 1.5 -2.5."], EVEN_LINE, *LAST]
+EARLIER = ["The position shown is of an earlier frame."]
+REASONS = {"waiting": "within 10 s there is no frame of the other parity, and no position to follow",
+           "split": "the pair lies on both sides of a zone border, and within 10 s there is no position to follow",
+           "far": "a latitude of the pair lies beyond a pole",
+           "no site": "a pair on the ground needs the position of the receiver: --lat and --lon"}
+WHY_ROWS: List[Tuple[Dict[str, Any], List[List[str]]]] = [
+    ({**ODD, "answer": "fix", "place": FIX}, FIX_LINES),
+    ({**EVEN, "answer": "followed", "place": FOLLOWED}, FOLLOWED_LINES),
+    ({**ODD, "answer": "fix", "place": FIX, "doubts": ["a", "b"]}, [FIX_LINES[0], ["doubtful: a, b."], *FIX_LINES[1:]]),
+    *(({**ODD, "answer": answer, "place": FOLLOWED},
+       [[f"{answer}: the last position frame has no position, because {reason}."], ODD_LINE, EARLIER, *FOLLOWED_LINES])
+      for answer, reason in REASONS.items()),
+    ({**EVEN, "answer": "waiting", "place": None},
+     [[f"waiting: the last position frame has no position, because {REASONS['waiting']}."], EVEN_LINE]),
+]
+# Requests that are answered by hand: those that were sent, and what answers one. The stream tells of nothing new.
+ASKED = """window.sent = [];
+window.fetch = (path) => new Promise((done) => sent.push({ path, done }));
+window.tell = async (at, command) => {
+  const told = %s;
+  sent[at].done({ ok: command !== "", json: async () => ({ ...told, place: { ...told.place, command } }) });
+  await new Promise((done) => setTimeout(done));
+  return [byId("why").hidden, byId("why-command").textContent, byId("why").lastElementChild.hidden];
+};
+window.event = (...names) => {
+  const rows = names.map((name) => [name, 0, 0, 0, null, 0, {}]);
+  live.take({ now: live.map.now, state: "ended", squitters: 1, doubtful: {}, rows }, false);
+  return sent.length;
+}; 0""" % json.dumps({**ODD, "answer": "fix", "doubts": [], "place": FIX})
+
+
+def live_why(tries: Tries) -> str:
+    """The selected aircraft says why it is where it is, with the command that the program answers alike. The page asks
+    at a selection and at each event that tells of the aircraft, and only the last question is answered."""
+    with live(tries) as browser:
+        for address, doubt in ((NEAR, ""), (FAR, "doubtful: beyond 300 NM.")):
+            browser.evaluate(f"live.map.select(0x{address})")
+            browser.wait(f"live.why.address === 0x{address} && !byId('why').hidden", 10)
+            said, command = shown(browser, "#why-said"), shown(browser, "#why-command")
+            first, *words = shlex.split(command)
+            done = subprocess.run([tries.program, *words], capture_output=True, text=True, check=True)
+            lat, lon = done.stdout.splitlines()[1].split()
+            wanted = ("fix: ", f"latitude {lat}", f"longitude {lon}", "even frame", "odd frame", *words[1:], doubt)
+            expect(first == "squitter" and all(one in said for one in wanted), said, wanted)
+            decimals = done.stdout.splitlines()[0].replace(" ", ", ")
+            expect(decimals in shown(browser, "#chosen"), decimals, shown(browser, "#chosen"))
+        browser.evaluate("void (window.copyText = async (text) => { window.taken = text; return true })")
+        clicked(browser, "#why button")
+        expect(browser.evaluate("taken") == command, "copied is", browser.evaluate("taken"))
+        for told, lines in WHY_ROWS:
+            got = browser.evaluate(f"whyLines({json.dumps({'doubts': [], **told})})")
+            expect(got == lines, told, got, lines)
+        asked_by_hand(browser)
+    return f"{len(WHY_ROWS)} answers"
+
+
+def asked_by_hand(browser: Chromium) -> None:
+    """When the page asks, and which answer it shows."""
+    browser.evaluate(ASKED)
+    browser.evaluate(f"live.map.select(0x{NEAR}); live.map.select(0x{FAR})")
+    expect(browser.evaluate("sent.map(({ path }) => path)") == [f"why/{NEAR}", f"why/{FAR}"], "asked for")
+    rows = (
+        ("tell(1, 'new')", [False, "new", False]), ("tell(0, 'old')", [False, "new", False]),
+        (f"event('{NEAR}')", 2), ("event()", 2), (f"event('{NEAR}', '{FAR}')", 3),
+        ("[byId('why').hidden, byId('why-command').textContent]", [False, "new"]),  # until it is answered
+        ("tell(2, 'then')", [False, "then", False]),
+        (f"(live.map.select(0x{NEAR}), byId('why').hidden)", True), ("tell(3, '')", [False, "", True]),
+        ("byId('why-said').textContent", "The server has no position frame of it."),
+        ("(live.map.select(NaN), [sent.length, byId('why').hidden])", [4, True]),
+        (f"event('{NEAR}')", 4),
+        (f"(live.map.select(0x{NEAR}), tell(4, 'x'))", [False, "x", False]),
+        (f"(live.tracks.planes.delete(0x{NEAR}), live.list(), byId('why').hidden)", True),
+    )
+    for script, wanted in rows:
+        got = browser.evaluate(script)
+        expect(got == wanted, script, got, wanted)
+
+
 def live_layout(tries: Tries) -> str:
     """The map fills the window beside the list; on a phone the list is below. Nothing is wider than the window."""
     boxes = """(() => ["map", "list-box"].map((name) => {
@@ -121,7 +209,13 @@ def live_layout(tries: Tries) -> str:
             expect((left, top) == (0, 0) and list_bottom <= height, width, left, top, list_bottom)
             beside = bottom == height and list_left >= right
             expect(beside if width > 700 else right == width and list_top >= bottom > height / 2, width, right, bottom)
-            expect(browser.evaluate("document.documentElement.scrollWidth <= innerWidth"), "wider than", width)
+            browser.evaluate(f"live.map.select(0x{NEAR})")
+            browser.wait("!byId('why').hidden", 10)
+            sizes = "(({ scrollWidth, scrollHeight }) => [scrollWidth, scrollHeight])(document.documentElement)"
+            expect(browser.evaluate(sizes) == [width, height], "the page in", width, height, browser.evaluate(sizes))
+            high = browser.evaluate("byId('list-box').clientHeight")
+            expect(high >= 80, "beside a selected aircraft the list is", high, "high in", width, height)
+            browser.evaluate("live.map.select(NaN)")
             if os.environ.get("SHOTS"):
                 browser.picture(f"{os.environ['SHOTS']}/live-{width}{'-dark' * dark}.png")
         browser.look()
