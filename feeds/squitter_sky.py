@@ -7,7 +7,7 @@ from collections import Counter, deque
 from typing import Any, Deque, Dict, List, Optional, Tuple, Union
 
 import squitter
-from squitter import Doubt, Kind, LastFix, Present
+from squitter import Doubt, LastFix, Position
 from squitter_extras import Extras, extras_of
 from squitter_why import Why
 
@@ -15,6 +15,7 @@ GONE = 60_000  # milliseconds after which an aircraft is no longer shown
 TAIL = 180_000  # milliseconds of a trail
 STEP = 2_000  # milliseconds between two points of a trail, at least
 RANGE, SPEED = 300, 2000  # nautical miles and knots beyond which a place cannot be true, as on the page
+SURE = Doubt(0)
 DOUBTS = {Doubt.BEYOND_RANGE: f"beyond {RANGE} NM", Doubt.TOO_FAST: f"faster than {SPEED} knots"}
 
 Feet = Union[int, str, None]
@@ -41,29 +42,24 @@ class Plane:
         self.feet: Feet = None
         self.fix: Optional[LastFix] = None
         self.place: Tuple[float, float] = (0.0, 0.0)  # in degrees, with seven decimals
-        self.doubts = Doubt(0)
+        self.doubts = SURE
         self.extras: Extras = {}
         self.heard = self.messages = 0
         self.tick = 0  # the event that tells of it
         self.trail: Deque[Point] = deque()
         self.why = Why()
 
-    def take(self, known: Present, sky: Sky) -> bool:
-        """Takes what the tracker keeps of the aircraft. Returns whether it has a new place."""
-        fields, fix, before = known.fields, known.fix, self.fix
-        self.feet = "ground" if fields.kind == Kind.GROUND else fields.feet
-        if fix is None or before is not None and fix.moment <= before.moment:
-            return False
-        place = round(float(fix.position.lat), 7), round(float(fix.position.lon), 7)
+    def take(self, moment: int, place: Tuple[float, float], sky: Sky) -> None:
+        """Takes a place at a timestamp (ms)."""
+        before = self.fix
         # The library is asked only about places that are further away than so many miles can be.
         is_sure = is_near(place, sky.here, RANGE) and (before is None or is_near(place, self.place, 1))
-        self.doubts = Doubt(0) if is_sure else sky.watch.doubts(fix.moment, fix.position, before)
-        self.fix, self.place = fix, place
-        if not self.trail or self.doubts != self.trail[-1][-1] or fix.moment - self.trail[-1][0] >= STEP:
+        self.doubts = SURE if is_sure else sky.watch.doubts(moment, place, before)
+        self.fix, self.place = LastFix(moment, Position(*place)), place
+        if not self.trail or self.doubts != self.trail[-1][-1] or moment - self.trail[-1][0] >= STEP:
             self.trail.append(self.point())
-        while fix.moment - self.trail[0][0] > TAIL:
+        while moment - self.trail[0][0] > TAIL:
             self.trail.popleft()
-        return True
 
     def point(self) -> Point:
         return (self.fix.moment if self.fix else 0, *self.place, self.feet, int(self.doubts))
@@ -90,30 +86,32 @@ class Sky:
 
     def hear(self, lines: bytes) -> None:
         """Takes lines of a log, whole ones."""
-        since = self.last
         for line, row in zip(lines.splitlines(), self.log.take_text(lines).decode().splitlines()):
-            _, moment, answer, address, kind, lat, lon, _ = row.split(",")
-            self.answers[" ".join(word for word in answer.split() if word.islower())] += 1
-            if address and moment:
-                self.last = int(moment)
-                plane = self.count(int(address, 16), line if kind == "other" else b"")
-                if kind != "other":
-                    plane.why.take(line, answer, kind, lat, lon)
-        for known in self.log.present(since):
-            found = self.planes.get(known.address)
-            if found is not None and found.take(known, self):
-                for doubt in DOUBTS:
-                    self.doubtful[doubt] += doubt in found.doubts
+            _, moment, answer, address, kind, lat, lon, feet = row.split(",")
+            word = answer if answer.isalpha() else " ".join(word for word in answer.split() if word.islower())
+            self.answers[word] += 1
+            if not address or not moment:
+                continue
+            self.last = int(moment)
+            plane = self.count(int(address, 16))
+            if kind == "other":
+                frame = line.split()[1].strip(b"*;").decode()
+                plane.extras = {**plane.extras, **extras_of(squitter.read(frame).raw)}
+                continue
+            plane.why.take(line, answer, kind, lat, lon)
+            plane.feet = kind if kind == "ground" else int(feet) if feet else None
+            if lat:
+                plane.take(self.last, (float(lat), float(lon)), self)
+                for doubt in DOUBTS if plane.doubts else ():
+                    self.doubtful[doubt] += doubt in plane.doubts
 
-    def count(self, address: int, other: bytes) -> Plane:
-        """Counts a message of an aircraft, and reads the line of one without a position. Returns the aircraft."""
+    def count(self, address: int) -> Plane:
+        """Counts a message of an aircraft. Returns the aircraft."""
         plane = self.planes.get(address)
         if plane is None:
             plane = self.planes[address] = Plane(address)
         plane.heard, plane.tick = self.last, self.tick
         plane.messages += 1
-        if other:
-            plane.extras = {**plane.extras, **extras_of(squitter.read(other.split()[1].strip(b"*;").decode()).raw)}
         return plane
 
     def forget(self, now: int) -> None:
@@ -141,8 +139,7 @@ class Sky:
         if plane is None or not plane.why.line:
             return None
         doubts = [text for doubt, text in DOUBTS.items() if doubt in plane.doubts]
-        position = plane.fix.position if plane.fix else None
-        return dumped({"address": plane.address, "doubts": doubts, **plane.why.told(self.site, position)})
+        return dumped({"address": plane.address, "doubts": doubts, **plane.why.told(self.site)})
 
     def trails(self) -> str:
         return dumped({plane.address: list(plane.trail) for plane in self.planes.values() if plane.trail})

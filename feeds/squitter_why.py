@@ -42,9 +42,9 @@ class Why:
             self.shown = answer, kind, line, kept[not is_odd], kept[2], (lat, lon)
             kept[2] = lat, lon
 
-    def told(self, site: Site, known: Optional[Position]) -> Dict[str, Any]:
-        """Returns what is told. The tracker knows the exact place."""
-        place = place_told(Shown(*self.shown), site, known) if self.shown else None
+    def told(self, site: Site) -> Dict[str, Any]:
+        """Returns what is told."""
+        place = place_told(Shown(*self.shown), site) if self.shown else None
         return {"answer": self.answer, **frame_told(self.line), "place": place}
 
 
@@ -57,7 +57,7 @@ def degrees(place: Place) -> str:
     return f"--lat={place[0]} --lon={place[1]}"
 
 
-def place_told(shown: Shown, site: Site, known: Optional[Position]) -> Dict[str, Any]:
+def place_told(shown: Shown, site: Site) -> Dict[str, Any]:
     """Returns how a place is made, by the library once more: what is told is what the command prints."""
     frame = frame_told(shown.line)
     if shown.answer == "fix":
@@ -68,7 +68,7 @@ def place_told(shown: Shown, site: Site, known: Optional[Position]) -> Dict[str,
     else:
         frames, near = [frame], shown.near or shown.place
         # (half a zone away from the place before, its decimals may give another place)
-        if near_to(frame["frame"], near) != known:
+        if not is_at(near_to(frame["frame"], near), shown.place):
             near = shown.place
         position = squitter.local(frame["frame"], near)
         words = ["local", frame["frame"], degrees(near)]
@@ -81,6 +81,11 @@ def near_to(frame: str, near: Place) -> Optional[Position]:
         return squitter.local(frame, near)
     except Fault:
         return None
+
+
+def is_at(position: Optional[Position], place: Place) -> bool:
+    """Returns whether a position is the one that the log printed. Others that a frame may mean are degrees away."""
+    return position is not None and all(abs(float(one) - float(text)) < 1e-6 for one, text in zip(position, place))
 
 
 def fraction(angle: Any) -> str:

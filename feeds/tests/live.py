@@ -315,6 +315,9 @@ def wild_places() -> None:
         stats = run.told("/stats.json")
         same((stats["beyond 300 NM"], stats["faster than 2000 knots"]), (2, 3), stats)
         trail = Stream(run.port).next()
+        piped(run, log_with(*pair(200_000, *places[-1]), *pair(200_020, *places[-1])))
+        stats = run.wait(lambda stats: stats["squitters"] == 16, "four frames at once")
+        same((stats["beyond 300 NM"], stats["faster than 2000 knots"]), (5, 3), "each place is counted", stats)
         same((trail[0], [point[-1] for point in trail[1]["123456"]]), ("trails", wanted))
 
 
