@@ -155,8 +155,9 @@ class Server:
             if path == self.path:
                 self.counts["served"] += 1
                 client.is_stream = is_get
-                begin = head(status, "text/event-stream") + (b"retry: 2000\n\n" + self.first()) * is_get
-                self.put(client, begin)
+                self.put(client, head(status, "text/event-stream") + b"retry: 2000\n\n" * is_get)
+                if is_get:
+                    self.put(client, self.first())
                 return
             found = self.find(path)
             if found is None:

@@ -6,6 +6,7 @@ import json
 import os
 import pty
 import re
+import runpy
 import selectors
 import signal
 import socket
@@ -23,6 +24,7 @@ import squitter_server
 from process import TOP, flights, listening, log_of
 from squitter_extras import extras_of
 from squitter_server import Server
+from squitter_sky import Sky
 from trying import AIR_EVEN, AIR_ODD, GROUND, Late, beast, expect, same, took
 
 LIVE = f"{TOP}/feeds/squitter-live"
@@ -469,6 +471,24 @@ def falls_behind() -> None:
         time.sleep(0.3)
         made.cut_off()
         same((len(made.streams()), made.counts["cut off"]), (0, 2))
+
+
+def shared_text() -> None:
+    """Clients that come between two events share the text that they get at first, and so does one that is stuck."""
+    view = runpy.run_path(LIVE)["View"](Sky(None, 5), mock.Mock(now=lambda: 0, state=lambda: "playing"), 50)
+    first = view.first()
+    expect(view.first() is first, "the text is made again")
+    view.sky.hear(log_with((0, AIR_EVEN)))
+    view.tick()
+    same(view.first(), first.replace(b'"squitters":0,"rows":[]',
+                                     b'"squitters":1,"rows":[["40621D",0,0.0,0.0,38000,0,{}]]'))
+    text = bytes(1_000_000)
+    with server(BUFFER=4096) as (made, work):
+        made.first = lambda: text
+        streams = [Stream(made.port, 4096) for _ in range(2)]
+        work()
+        same([client.left[-1].obj is text for client in made.streams()], [True] * len(streams))
+        expect(b"\r\n\r\nretry: 2000\n\n\0" in streams[0].link.recv(2000), "the text does not follow the head")
 
 
 def silence() -> None:
