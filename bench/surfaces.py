@@ -20,7 +20,7 @@ import tempfile
 import time
 from fractions import Fraction
 from pathlib import Path
-from typing import Any, Callable, Dict, Mapping, NamedTuple, Optional, Sequence, Tuple
+from typing import Any, Callable, Dict, List, Mapping, NamedTuple, Optional, Sequence, Tuple
 
 TOP = Path(__file__).resolve().parent.parent
 CLIB = TOP / "clib"
@@ -55,9 +55,9 @@ class Way(NamedTuple):
 class Inputs:
     """The log in each form, in a folder."""
 
-    def __init__(self, folder: str, count: int) -> None:
+    def __init__(self, folder: str, count: int, aircraft: int = AIRCRAFT) -> None:
         self.folder, self.count, self.part = Path(folder), count, max(count // PART, 1)
-        words = [self.built("gen", "-lm"), "track", str(count), "1", str(AIRCRAFT)]
+        words = [self.built("gen", "-lm"), "track", str(count), "1", str(aircraft)]
         self.lines = subprocess.run(words, check=True, capture_output=True).stdout.splitlines(keepends=True)
         parts = map(bytes.split, self.lines)
         self.squitters = [(int(moment), bytes.fromhex(frame.decode())) for moment, frame in parts]
@@ -266,15 +266,19 @@ def least(runs: Sequence[Took], count: int) -> Tuple[float, float]:
     return tuple(1e9 * min(some) / count for some in list(zip(*runs))[:2])  # type: ignore[return-value]
 
 
-def main() -> None:
-    wrong = [word for word in sys.argv[1:] if not re.fullmatch("[1-9][0-9]*", word)]
+def numbers(**usual: int) -> List[int]:
+    """Returns the numbers of the command line, and the usual ones for those that it lacks. Other words end the run."""
+    words = sys.argv[1:]
+    wrong = [f"{word} is no number from 1 on" for word in words if not re.fullmatch("[1-9][0-9]*", word)]
+    wrong += [f"takes {' and '.join(usual)}, and no more words"] * (len(words) > len(usual))
     if wrong:
-        print(f"surfaces.py: {wrong[0]} is no number from 1 on", file=sys.stderr)
+        print(f"{os.path.basename(sys.argv[0])}: {wrong[0]}", file=sys.stderr)
         sys.exit(2)
-    if len(sys.argv) > 3:
-        print("surfaces.py: takes LINES and ROUNDS, and no more words", file=sys.stderr)
-        sys.exit(2)
-    count, rounds = (int(word) for word in (sys.argv + ["1000000", "5"][len(sys.argv) - 1:])[1:3])
+    return [*map(int, words), *list(usual.values())[len(words):]]
+
+
+def main() -> None:
+    count, rounds = numbers(LINES=1_000_000, ROUNDS=5)
     program = os.environ.get("PROGRAM") or subprocess.run(
         [f"{TOP}/dist/program"], check=True, stdout=subprocess.PIPE, text=True).stdout.strip()
     subprocess.run(["make", "-s", "-C", str(CLIB), "libsquitter.a", "libsquitter.so.0"], check=True)
