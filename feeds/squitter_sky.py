@@ -14,6 +14,7 @@ from squitter_why import Why
 GONE = 60_000  # milliseconds after which an aircraft is no longer shown
 TAIL = 180_000  # milliseconds of a trail
 STEP = 2_000  # milliseconds between two points of a trail, at least
+NO_SIGNAL = -49.5  # dBFS: lines of a log have no level, and the page of dump1090-mutability fails without a number
 RANGE, SPEED = 300, 2000  # nautical miles and knots beyond which a place cannot be true, as on the page
 SURE = Doubt(0)
 DOUBTS = {Doubt.BEYOND_RANGE: f"beyond {RANGE} NM", Doubt.TOO_FAST: f"faster than {SPEED} knots"}
@@ -145,7 +146,7 @@ class Sky:
         return dumped({plane.address: list(plane.trail) for plane in self.planes.values() if plane.trail})
 
     def aircraft(self, now: int) -> str:
-        """Returns the aircraft as readsb writes them. `altitude`, `speed` and `vert_rate` are for the page of
+        """Returns the aircraft as readsb writes them. `altitude`, `speed`, `vert_rate` and `rssi` are for the page of
         dump1090-mutability. A place that cannot be true is left out."""
         rows = []
         for plane in self.planes.values():
@@ -156,7 +157,7 @@ class Sky:
             told.update({name: round(told[of]) for name, of in names.items() if of in told})
             if plane.fix and not plane.doubts:
                 told.update(lat=plane.place[0], lon=plane.place[1], seen_pos=age(now, plane.fix.moment))
-            told.update(seen=age(now, plane.heard), messages=plane.messages, mlat=[], tisb=[])
+            told.update(seen=age(now, plane.heard), messages=plane.messages, rssi=NO_SIGNAL, mlat=[], tisb=[])
             rows.append(told)
         return dumped({"now": now / 1000, "messages": sum(self.answers.values()), "aircraft": rows})
 

@@ -248,7 +248,7 @@ def beside_the_truth() -> None:
         near = abs(one["lat"] - float(lat)) < 1e-4 and min(apart, 360 - apart) < 1e-4 / (1 - abs(float(lat)) / 90)
         expect(near, one, "is not at", lat, lon)
         expect(abs(one["alt_baro"] - float(feet)) <= 12.5 and one["altitude"] == one["alt_baro"], one, feet)
-        expect(one["seen"] == one["seen_pos"] < 60 and one["messages"] > 10, one)
+        expect(one["seen"] == one["seen_pos"] < 60 and one["messages"] > 10 and one["rssi"] == -49.5, one)
     same([stats[name] for name in stats if name.startswith(("beyond", "faster"))], [0, 0])
 
 
