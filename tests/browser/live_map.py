@@ -5,11 +5,12 @@ import re
 import shlex
 import signal
 import subprocess
-from contextlib import contextmanager
+from contextlib import closing, contextmanager
 from typing import Any, Dict, Iterator, List, Tuple
 
+import firefox
 from chromium import Chromium
-from trying import TOP, Tries, expect
+from trying import TOP, Missing, Tries, expect
 from using import clicked, pressed, shown, texts_of
 
 NEAR, FAR = "484004", "4B1001"  # aircraft of the example: near the site, and beyond 300 NM
@@ -31,27 +32,35 @@ MARK = """new Promise((done) => requestAnimationFrame(() => requestAnimationFram
 
 
 @contextmanager
-def live(tries: Tries) -> Iterator[Chromium]:
-    """The live map of the example at its end, in the browser. Its server is ended before the use is over."""
-    browser = tries.browser
+def example() -> Iterator[str]:
+    """The address of a live map that plays the example fast. Its server is ended after the use."""
     words = [f"{TOP}/feeds/squitter-live", f"{TOP}/examples/flights.log", "--speed=10000", "--port=0", "--every=50",
              "--lat=52.31", "--lon=4.76"]
     with subprocess.Popen(words, stderr=subprocess.PIPE, text=True) as process:
         try:
             assert process.stderr is not None
-            address = process.stderr.readline().split()[-1]
+            yield process.stderr.readline().split()[-1]
+            process.send_signal(signal.SIGTERM)
+            expect(process.wait(10) == 0, "squitter-live ends with", process.returncode)
+        finally:
+            process.kill()
+
+
+@contextmanager
+def live(tries: Tries) -> Iterator[Chromium]:
+    """The live map of the example at its end, in the browser. Its server is ended before the use is over."""
+    browser = tries.browser
+    try:
+        with example() as address:
             browser.look()
             browser.open(address)
             browser.wait("byId('state').textContent === 'ended'")
             yield browser
             tries.silent()
-            process.send_signal(signal.SIGTERM)
-            expect(process.wait(10) == 0, "squitter-live ends with", process.returncode)
-            browser.wait("byId('state').textContent === 'server lost' && byId('state').className === 'bad'", 10)
-            browser.problems.clear()  # what it says of the server that is gone
-        finally:
-            process.kill()
-            browser.call("Page.navigate", url="about:blank")
+        browser.wait("byId('state').textContent === 'server lost' && byId('state').className === 'bad'", 10)
+        browser.problems.clear()  # what it says of the server that is gone
+    finally:
+        browser.call("Page.navigate", url="about:blank")
 
 
 def first_cells(browser: Chromium) -> List[str]:
@@ -220,3 +229,32 @@ def live_layout(tries: Tries) -> str:
                 browser.picture(f"{os.environ['SHOTS']}/live-{width}{'-dark' * dark}.png")
         browser.look()
     return "4 windows"
+
+
+# The altitude colours of aircraft that a map has, by their numbers.
+COLOURS = """(() => {
+  const pixels = (pen, wide, high) => new Uint32Array(pen.getImageData(0, 0, wide, high).data.buffer);
+  const canvas = document.querySelector("canvas"), spot = new OffscreenCanvas(1, 1).getContext("2d");
+  const drawn = new Set(pixels(canvas.getContext("2d"), canvas.width, canvas.height));
+  return [0, 1, 2, 3, 4, 5, 6, 7].filter((at) => {
+    spot.fillStyle = getComputedStyle(canvas).getPropertyValue(`--feet${at}`);
+    spot.fillRect(0, 0, 1, 1);
+    return drawn.has(pixels(spot, 1, 1)[0]);
+  });
+})()"""
+
+
+def live_in_firefox(tries: Tries) -> str:
+    """Firefox shows the list, the aircraft that is clicked and the map, and says that the server is lost."""
+    if not firefox.installed():
+        raise Missing("firefox-esr")
+    with closing(firefox.Firefox()) as browser:
+        with example() as address:
+            browser.open(address)
+            browser.wait("document.getElementById('state').textContent === 'ended'")
+            browser.evaluate("document.querySelector('#list tbody tr').click()")
+            said, colours = browser.evaluate("document.body.innerText"), browser.evaluate(COLOURS)
+            expect("5 aircraft, 2010 squitters" in said and "52.4117680, 4.9482422" in said, said)
+            expect(colours == [0, 1, 2], colours)  # 484004 climbs to 4,950 feet, and 3C0005 is at 7,525
+        browser.wait("document.getElementById('state').textContent === 'server lost'", 10)
+        return f"Firefox {browser.version}"
