@@ -31,9 +31,9 @@ function selectText(node) {
   getSelection()?.addRange(range);
 }
 
-/** Returns a button that copies a text, by default that of an element. If the browser refuses, the element shows the
- * text, selected. */
-function copyButton(node, what, name = "Copy", textOf = () => node.textContent) {
+/** Returns a button that copies the text of an element, or another one that the element shows only if the browser
+ * refuses. Then the button selects the text. */
+function copyButton(node, what, name = "Copy", textOf = null) {
   const button = element("button", { type: "button", class: "copy" });
   // The name for screen readers begins with the text, and changes with it.
   const say = (text, more) => {
@@ -42,11 +42,9 @@ function copyButton(node, what, name = "Copy", textOf = () => node.textContent) 
   };
   say(name, what);
   button.addEventListener("click", async () => {
-    const text = textOf(), isCopied = await copyText(text);
-    if (!isCopied) {
-      node.textContent = text;
-      selectText(node);
-    }
+    const text = textOf?.() ?? node.textContent, isCopied = await copyText(text);
+    if (!isCopied && textOf) node.textContent = text;
+    if (!isCopied) selectText(node);
     say(isCopied ? "Copied" : "Press Ctrl+C", isCopied ? what : `to copy ${what}`);
     setTimeout(() => say(name, what), COPIED_FOR);
   });

@@ -15,8 +15,8 @@ function linkOf(kind, texts) {
   return `#${kind}=${parts.join(",").replace(/,+$/, "")}`;
 }
 
-/** Fills in the form of a link, shows its answer, and keeps the link in the address. Ignores any other text. A comma too
- * many belongs to the last field, which refuses it. */
+/** Fills in the form of a link, shows its answer, and keeps the link in the address. Ignores any other text. A comma
+ * too many belongs to the last field, which refuses it. */
 function openLink(link) {
   const [, kind, text] = /^#(\w+)=(.*)$/s.exec(link) ?? [], form = LINKS.get(kind);
   if (!form) return;

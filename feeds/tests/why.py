@@ -158,15 +158,18 @@ def split_pairs() -> None:
 
 def half_a_zone_away() -> None:
     """A frame exactly half a zone north of the place before is followed to there. The decimals of that place are below
-    it, and would give the place half a zone south, so the command has those of the frame's own place."""
-    # The latitude with index 3 has 18 / 2^17 degrees, 0.0001373291015625; 3 degrees are half a zone of an even frame.
-    frames = [squitter.encode(AirHead(address=1, odd=odd), (lat, "0")).hex().upper()
-              for odd, lat in ((1, "0.000137329101"), (0, "0.000137329101"), (0, "3.000137329101"))]
-    with served("-", "--every=50", stdin=subprocess.PIPE) as run:
-        told = told_after(run, list(zip((0, 1000, 10_500), frames)), "000001")
-        place = by_program(told["place"])
-        same((place["answer"], place["lat"]), ("followed", "196617/65536"), told)
-        same(place["near"][0], "3.0001373")
+    it, and would give the place half a zone south, or none beyond the pole. So the command has those of the frame's own
+    place."""
+    # An index has 6 / 2^17 degrees, and half a zone of an even frame 3; the indices before are 3 and -1955003.
+    rows = (("0.000137329101", "3.000137329101", "196617/65536", "3.0001373"),
+            ("-89.492935180664", "-86.492935180664", "-5668401/65536", "-86.4929352"))
+    for before, after, lat, near in rows:
+        frames = [squitter.encode(AirHead(address=1, odd=odd), (text, "0")).hex().upper()
+                  for odd, text in ((1, before), (0, before), (0, after))]
+        with served("-", "--every=50", stdin=subprocess.PIPE) as run:
+            told = told_after(run, list(zip((0, 1000, 10_500), frames)), "000001")
+            place = by_program(told["place"])
+            same((place["answer"], place["lat"], place["near"][0]), ("followed", lat, near), told)
 
 
 def wild() -> None:

@@ -30,7 +30,8 @@ OPENED: Sequence[Row] = (
     ("frame", "<img src=x onerror=alert(1)>", ["<img src=x onerror=alert(1)>"], "Refused: bad digit 1:"),
     ("frame", "%3Cimg src=x%3E", ["<img src=x>"], "Refused: bad length 11:"),
     ("frame", "a=b%3dc#d", ["a=b=c#d"], "Refused: bad length 7:"),
-    ("frame", "100%", ["100%"], "Refused: bad length 4:"), ("frame", "%C3%A9%c3", ["%C3%A9%c3"], "Refused: bad length 9:"),
+    ("frame", "100%", ["100%"], "Refused: bad length 4:"),
+    ("frame", "%C3%A9%c3", ["%C3%A9%c3"], "Refused: bad length 9:"),
     ("frame", "%C3%A9", ["\u00e9"], "Refused: bad length 2:"), ("frame", "%0Ax", ["x"], "Refused: bad length 1:"),
     ("pair", f"{AIR_EVEN},{AIR_ODD}", [AIR_EVEN, AIR_ODD, "", ""], PLACE),
     ("pair", f"{GROUND_EVEN},{GROUND_ODD}", [GROUND_EVEN, GROUND_ODD, "", ""], "No position: no site"),
@@ -214,7 +215,8 @@ def onward(tries: Tries) -> str:
     moved_to(browser, f"location.hash = {json.dumps(f'pair={GROUND_EVEN},{GROUND_ODD},51.990,4.375')}")
     moved_to(browser, "document.querySelector('#place-answer a').click()")
     expect([value_of(browser, f"log-{name}") for name in ("lat", "lon")] == ["51.990", "4.375"], "the receiver")
-    expect(re.fullmatch(rb"1 waiting 484175\n2 fix 484175 52\.3206\d{3} 4\.7347\d{3}\n", heard(browser)), heard(browser))
+    wanted = rb"1 waiting 484175\n2 fix 484175 52\.3206\d{3} 4\.7347\d{3}\n"
+    expect(re.fullmatch(wanted, heard(browser)), heard(browser))
     clicked(browser, "[data-link^='#local']")
     expect(browser.evaluate(links) == [], "a frame near a reference leads on")
     return "2 steps"

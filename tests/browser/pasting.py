@@ -144,8 +144,8 @@ def copied(tries: Tries) -> str:
                 expect(said == "Copied" and there == frame, name, parity, said, there, frame)
             expect(browser.evaluate(f"document.activeElement === document.querySelector('{button}')"), "focus", name)
         browser.wait("![...document.querySelectorAll('#send-answer .copy')].some((one) => one.textContent !== 'Copy')")
-    left = browser.evaluate("[document.querySelectorAll('body > textarea').length, "
-                            "...[...document.querySelectorAll('#send-answer .copy')].map((one) => one.getAttribute('aria-label'))]")
+    left = browser.evaluate("[document.querySelectorAll('body > textarea').length, ...[...document.querySelectorAll("
+                            "'#send-answer .copy')].map((one) => one.getAttribute('aria-label'))]")
     expect(left == [0, "Copy the even frame", "Copy the odd frame"], left)
     frames = [shown(browser, f"#send-answer .card:nth-child({at}) code") for at in (1, 2)]
     tops = browser.evaluate("[...document.querySelectorAll('#send-answer .card')].map((one) => "
