@@ -4,14 +4,13 @@
 A log of a million LINES (bench/gen.c) is heard as structs and as text, and its feeds are read as lines and as frames. A
 row has the least processor time of nine ROUNDS of a C program that stands on each, in nanoseconds a line. All three
 have to give the same answers. A compiler that is not installed is left out."""
-import re
 import shutil
 import subprocess
 import sys
 import tempfile
 from typing import Dict, List, Tuple
 
-from surfaces import CLIB, TOP, Inputs, of_process
+from surfaces import CLIB, TOP, Inputs, numbers, of_process
 
 LIBRARIES: Dict[str, List[str]] = {
     "assembly": ["cc", str(CLIB / "libsquitter.a")], "gcc": ["gcc", str(TOP / "dist" / "squitter.c")],
@@ -42,11 +41,7 @@ def programs(folder: str) -> Dict[str, Dict[str, str]]:
 
 
 def main() -> None:
-    words = sys.argv[1:]
-    if len(words) > 2 or not all(re.fullmatch("[1-9][0-9]*", word) for word in words):
-        print("portable.py: takes LINES and ROUNDS, numbers from 1 on", file=sys.stderr)
-        sys.exit(2)
-    count, rounds = (int(word) for word in [*words, *("1000000", "9")[len(words):]])
+    count, rounds = numbers(LINES=1_000_000, ROUNDS=9)
     subprocess.run(["make", "-s", "-C", str(CLIB), "libsquitter.a"], check=True)
     with tempfile.TemporaryDirectory() as folder:
         inputs, made = Inputs(folder, count), programs(folder)
