@@ -1,10 +1,8 @@
 """squitter-live as a process: what it serves, what it refuses, how it ends, and its table."""
 from __future__ import annotations
 
-import fcntl
 import json
 import os
-import pty
 import re
 import runpy
 import selectors
@@ -13,7 +11,6 @@ import socket
 import struct
 import subprocess
 import tempfile
-import termios
 import time
 from contextlib import contextmanager
 from typing import Any, Callable, Dict, Iterator, List, Tuple
@@ -541,61 +538,3 @@ def broken_links() -> None:
         with mock.patch.object(made, "listener", mock.Mock(accept=mock.Mock(side_effect=OSError))):
             made.accept(0)
         same(made.clients, {})
-
-
-def table_in_a_terminal() -> None:
-    """The table is drawn in place, as high and wide as the terminal, and there is no server."""
-    for high, wide, shown in ((10, 100, "5 aircraft, ended"), (5, 60, "5 aircraft, ended, 3 shown")):
-        ours, theirs = pty.openpty()
-        fcntl.ioctl(theirs, termios.TIOCSWINSZ, struct.pack("HHHH", high, wide, 0, 0))
-        with subprocess.Popen([LIVE, LOG, "--table", *FAST], stdout=theirs, stderr=subprocess.PIPE) as process:
-            data, end = b"", time.monotonic() + 20
-            while shown.encode() not in data and time.monotonic() < end:
-                data += os.read(ours, 65_536)
-            process.send_signal(signal.SIGINT)
-            same(process.wait(10), 0)
-            assert process.stderr is not None
-            same(process.stderr.read(), b"squitter-live: 2010 written, 13 set aside; try --reorder=2000\n")
-        expect(shown.encode() in data, data[-300:])
-        last = data.rpartition(b"\x1b[H")[2].decode().replace("\r", "").split("\n")
-        same(len(last), min(high, 7), last)
-        expect(all(len(line.replace("\x1b[K", "").replace("\x1b[J", "")) <= wide for line in last), last)
-        found = re.match(r"3C0005 +7525 +47\.8622643 ", last[1])
-        expect(last[0].startswith("ICAO ") and found, last)
-        os.close(ours)
-        os.close(theirs)
-
-
-def table_that_is_stuck() -> None:
-    """A terminal that takes nothing holds up neither the map nor the end. One that is gone ends the run."""
-    ours, theirs = pty.openpty()
-    fcntl.ioctl(theirs, termios.TIOCSWINSZ, struct.pack("HHHH", 10, 100, 0, 0))
-    with served(LOG, "--table", *FAST, stdout=theirs) as run:
-        stats = run.wait(lambda stats: stats["state"] == "ended", "the log is played")
-        client = Stream(run.port)
-        for _ in range(200):  # of more bytes than the terminal holds
-            client.next()
-        same(stats["aircraft"], 5)
-    os.close(ours)
-    os.close(theirs)
-    ours, theirs = pty.openpty()
-    with subprocess.Popen([LIVE, LOG, "--table", *FAST], stdout=theirs, stderr=subprocess.PIPE) as process:
-        os.close(theirs)
-        os.read(ours, 100)
-        os.close(ours)
-        same(process.wait(10), 0)
-
-
-def table_in_a_pipe() -> None:
-    """Without a terminal each new place is a line. The end of its reader ends the run."""
-    with subprocess.Popen([LIVE, LOG, "--table", "--speed=20", "--every=50"], stdout=subprocess.PIPE,
-                          stderr=subprocess.PIPE) as process:
-        assert process.stdout is not None
-        lines = [process.stdout.readline().decode() for _ in range(20)]
-        rows = [re.fullmatch(r"(\w{6}) {9} +(\d+|ground)? {14} +(-?\d+\.\d{7}) +(-?\d+\.\d{7}) +\d+\.\d\n", line)
-                for line in lines]
-        expect(all(rows), lines)
-        places = {found.groups() for found in rows if found}
-        same(len(places), 20, "each place once", lines)
-        process.stdout.close()
-        same(process.wait(10), 0)
