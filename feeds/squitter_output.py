@@ -10,7 +10,7 @@ import stat
 import sys
 import termios
 from io import FileIO
-from typing import Dict, Optional, Tuple, Union
+from typing import Callable, Dict, Optional, Tuple, Union
 
 import squitter_words
 from squitter_words import reason
@@ -40,6 +40,7 @@ class Signals:
 
     def __init__(self) -> None:
         self.ended = False
+        self.at_once: Callable[[], None] = lambda: None  # what a second signal does before the end
         self.reader, writer = os.pipe()
         os.set_blocking(writer, False)
         signal.set_wakeup_fd(writer)
@@ -49,6 +50,7 @@ class Signals:
 
     def heard(self, number: int, _frame: object) -> None:
         if self.ended:
+            self.at_once()
             os._exit(128 + number)
         self.ended = True
 

@@ -138,7 +138,7 @@ def nearest_first() -> List[str]:
 
 def keys_of_a_table() -> None:
     """In front of its terminal, the key o takes the next order, also after a stop, and q ends the run. The terminal has
-    its modes again at the end, after a signal and after a fault too."""
+    its modes again at the end, after a signal, after two and after a fault too."""
     nearest, foot = nearest_first(), "5 aircraft, ended; {} first (o: order, q: quit)"
     highest = ["A00002", "4B1001", "7C0003", "3C0005", "484004"]
     latest = ["3C0005", "484004", "7C0003", "A00002", "4B1001"]
@@ -162,6 +162,12 @@ def keys_of_a_table() -> None:
             process.send_signal(signal.SIGTERM)
             same(process.wait(10), 0)
         terminal.has_its_modes("after a signal")
+        with terminal.started(LIVE, LOG, "--table", *FAST) as process:
+            terminal.drawn(foot.format("address"))
+            for number in (signal.SIGSTOP, signal.SIGINT, signal.SIGTERM, signal.SIGCONT):
+                process.send_signal(number)
+            same(process.wait(10), 128 + signal.SIGTERM)
+        terminal.has_its_modes("after two signals")
         with tempfile.NamedTemporaryFile() as file:
             file.write(b"nothing\n" * 9)
             file.flush()
