@@ -481,7 +481,7 @@ class Tracker:
         self._tracker = larger
 
 
-# What is kept of an aircraft in the air or on the ground, and in a tracker: squitter_side and squitter_entry.
+# The layouts of squitter_received, squitter_side and squitter_entry.
 _RECEIVED = np.dtype([("moment", "u8"), ("frame", "u1", 14)], align=True)
 _SIDE = np.dtype([("even", _RECEIVED), ("odd", _RECEIVED), ("fix_moment", "u8"), *POSITION.descr], align=True)
 _ENTRY = np.dtype([("moment", "u8"), ("address", "u4"), ("airborne", _SIDE), ("surface", _SIDE)], align=True)
